@@ -1,0 +1,17 @@
+pub mod Ascending
+pub mod GoodLines
+pub mod Grouping
+pub mod Inbox
+pub mod Limits
+pub mod LineWords
+pub mod MapParts
+pub mod MapTests
+pub mod Maps
+pub mod Offences
+pub mod Readings
+pub mod Rearranged
+pub mod Rows
+pub mod RunRows
+pub mod Settling
+pub mod Steps
+pub mod TextRows

@@ -1,0 +1,10 @@
+pub mod Graph
+pub mod Merge
+pub mod Program
+pub mod Step
+pub mod Meaning
+pub mod GraphText
+pub mod Laws
+pub mod Line
+pub mod GoodLine
+pub mod OutputText
