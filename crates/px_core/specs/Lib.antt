@@ -1,0 +1,9 @@
+pub mod Bits
+pub mod Counts
+pub mod Memory
+pub mod Moved
+pub mod Null
+pub mod Partition
+pub mod Picks
+pub mod Shown
+pub mod Told

@@ -1,0 +1,24 @@
+//! The outside of px: where text comes from and goes to, disks of page files, and whose turn it is.
+#![tactic(auto)]
+
+mod disk;
+mod memory;
+mod null;
+mod script;
+mod sink;
+mod source;
+mod stop;
+mod turns;
+mod vid;
+
+pub use disk::Disk;
+pub use memory::{MemSink, MemSource};
+pub use null::NullDisk;
+pub use sink::{Sink, write_all};
+pub use source::Source;
+pub use stop::{Failed, Stop};
+pub use turns::{ListTurns, Turns};
+pub use vid::{Vid, part_of};
+
+#[cfg(test)]
+mod tests;

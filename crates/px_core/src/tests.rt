@@ -1,0 +1,146 @@
+// What no clause says: values from outside, and each trait used through its bound.
+ghost use Rattle.std.specs.Prelude.{◌≡◌, ◌≢◌, ◌<◌, ◌⊎◌, ℕ, List, [], ◌∷◌, ◌++◌, length, take, drop, Some, IfOk, OnOk, OnErr, IsTrue};
+ghost use Rattle.px_core.specs.Counts.{Rose};
+
+use crate::{
+    Disk, Failed, ListTurns, MemSink, MemSource, NullDisk, Sink, Source, Turns, part_of, write_all,
+};
+use std::alloc::Global;
+use std::test::Fail;
+
+// Moves what one read gives, and answers how many bytes.
+fn copy<S: Source, W: Sink>(
+    source: &mut S,
+    sink: &mut W,
+    buffer: &mut [u8],
+) -> Result<usize, Failed>
+    ensures rest { IfOk result (λ n. (l : List ℕ) → S.left source.old l → S.left source.new (drop n l)) }
+    ensures held { IfOk result (λ n. (l h : List ℕ) → S.left source.old l → W.holds sink.old h → W.holds sink.new (h ++ take n l)) }
+    ensures cause { OnErr result (Rose (S.faults source.old) (S.faults source.new) ⊎ Rose (W.faults sink.old) (W.faults sink.new)) }
+{
+    let n = source.read(buffer)?;
+    write_all(sink, &buffer[..n])?;
+    Ok(n)
+}
+
+// Whether each call of a disk without pages fails.
+fn refuses_all<D: Disk>(disk: &mut D) -> bool
+    requires { (D.shown disk.old).page_len ≡ 0 }
+{
+    disk.clear(1).is_err()
+        && disk.write(1, 0, &[]).is_err()
+        && disk.read(1, 0, &mut []).is_err()
+        && disk.start(256).is_err()
+}
+
+fn turn<T: Turns>(turns: &mut T, ready: u32) -> u32
+    requires { 0 < ready }
+{
+    turns.start(7);
+    turns.pick(ready)
+}
+
+// Writes a page to each of two files. On a disk that tells, both hold it afterwards.
+fn write_two<D: Disk>(disk: &mut D, a: u32, b: u32, page: &[u8]) -> Result<(), Failed>
+    requires page_len { length page.now ≡ (D.shown disk.old).page_len }
+    requires apart { a ≢ b }
+    ensures first { (D.shown disk.old).files a ≡ Some [] → OnOk result ((D.shown disk.new).files a ≡ Some (page.now ∷ [])) }
+    ensures second { (D.shown disk.old).files b ≡ Some [] → OnOk result ((D.shown disk.new).files b ≡ Some (page.now ∷ [])) }
+    ensures cause { OnErr result (Rose (D.shown disk.old).faults (D.shown disk.new).faults) }
+{
+    disk.write(a, 0, page)?;
+    disk.write(b, 0, page)?;
+    Ok(())
+}
+
+#[test]
+fn partition_values(rt: HostRuntime) {
+    let table = [
+        (1, [0, 0, 0, 0, 0]),
+        (3, [0, 0, 2, 0, 0]),
+        (4, [0, 1, 2, 0, 2]),
+        (16, [0, 9, 2, 12, 6]),
+    ];
+    for (partitions, want) in table {
+        for (vid, want) in [0, 1, 2, 3, u64::MAX].into_iter().zip(want) {
+            assert_eq!(rt; part_of(vid, partitions), want, "{vid} among {partitions}");
+        }
+    }
+}
+
+#[test]
+fn copies_through_the_bounds(rt: HostRuntime) -> Result<(), Fail> {
+    let mut source = MemSource::new(rt.alloc(), b"abcdefg", &[])?;
+    let mut sink = MemSink::new(rt.alloc(), 7, &[])?;
+    let mut buffer = [0; 3];
+    for want in [3, 3, 1, 0] {
+        assert_eq!(rt; copy(&mut source, &mut sink, &mut buffer)?, want);
+    }
+    assert_eq!(rt; sink.bytes(), b"abcdefg".as_slice());
+    Ok(())
+}
+
+#[test]
+fn each_read_fails_in_turn(rt: HostRuntime) -> Result<(), Fail> {
+    for fail in 1..=4 {
+        let mut source = MemSource::new(rt.alloc(), b"abcde", &[fail])?;
+        let mut all = Vec::new(rt.alloc());
+        for call in 1..=4 {
+            let mut buffer = [0; 2];
+            let answer = source.read(&mut buffer);
+            assert_eq!(rt; answer.is_err(), call == fail, "call {call}");
+            if let Ok(n) = answer {
+                all.extend_from_slice(&buffer[..n])?;
+            }
+        }
+        assert_eq!(rt; all.as_slice(), b"abcde".as_slice());
+    }
+    Ok(())
+}
+
+#[test]
+fn each_write_fails_in_turn(rt: HostRuntime) -> Result<(), Fail> {
+    for (fail, want) in [(1, "cde"), (2, "abe"), (3, "abcd"), (4, "abcde")] {
+        let mut sink = MemSink::new(rt.alloc(), 5, &[fail])?;
+        for (call, part) in [(1, "ab"), (2, "cd"), (3, "e")] {
+            let answer = sink.write(part.as_bytes());
+            assert_eq!(rt; answer.is_err(), call == fail, "call {call}");
+        }
+        assert_eq!(rt; sink.bytes(), want.as_bytes());
+    }
+    Ok(())
+}
+
+#[test]
+fn a_full_sink_fails_with_a_prefix(rt: HostRuntime) -> Result<(), Fail> {
+    let mut sink = MemSink::new(rt.alloc(), 3, &[])?;
+    assert_eq!(rt; write_all(&mut sink, b"abcde"), Err(Failed));
+    assert_eq!(rt; sink.bytes(), b"abc".as_slice());
+    assert_eq!(rt; sink.write(&[]), Ok(0));
+    Ok(())
+}
+
+#[test]
+fn listed_turns_and_then_the_lowest(rt: HostRuntime) -> Result<(), Fail> {
+    let mut turns = ListTurns::new(rt.alloc(), &[3, 0, 40, 1])?;
+    let table = [
+        (0b1100, 3),
+        (0b1100, 2),
+        (0b1100, 2),
+        (0b1011, 1),
+        (0b1010_0000, 5),
+        (1 << 31, 31),
+    ];
+    for (ready, want) in table {
+        assert_eq!(rt; turn(&mut turns, ready), want, "{ready:b}");
+    }
+    Ok(())
+}
+
+#[test]
+fn the_null_disk_refuses_every_call(rt: HostRuntime) {
+    let mut disk = NullDisk::new();
+    assert!(rt; refuses_all(&mut disk));
+    assert!(rt; write_two(&mut disk, 1, 2, &[]).is_err());
+    assert_eq!(rt; (disk.reads(), disk.writes()), (0, 0));
+}

@@ -1,0 +1,14 @@
+//! The pool of frames: a bank made once, the shares that it lends, and lists of bytes held in a frame.
+#![tactic(auto)]
+
+mod bank;
+mod buf;
+mod frame;
+mod share;
+#[cfg(test)]
+mod tests;
+
+pub use bank::Bank;
+pub use buf::{Buf, Wide};
+pub use frame::Frame;
+pub use share::Share;

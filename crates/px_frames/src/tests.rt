@@ -1,0 +1,166 @@
+ghost use Rattle.std.specs.Prelude.{◌≡◌, ◌≤◌, ◌<◌, ◌≢◌, ◌++◌, IsTrue, List, ℕ, length, slice_set, slice_index_or, OnOk};
+ghost use Rattle.std.specs.Bool.{OnTrue};
+ghost use Rattle.px_frames.specs.Banks.{IsFrameLen, is_home};
+ghost use Rattle.px_frames.specs.Shares.{SamePlaces};
+
+use crate::{Bank, Buf, Frame, Share, Wide};
+use std::test::Fail;
+
+// Whether this may be the length of a frame.
+fn is_valid(len: u32) -> bool
+    ensures { OnTrue result (IsFrameLen len) }
+{
+    match len {
+        256
+        | 512
+        | 1024
+        | 2048
+        | 4096
+        | 8192
+        | 16384
+        | 32768
+        | 65536
+        | 131072
+        | 262144
+        | 524288
+        | 1048576 => true,
+        _ => false,
+    }
+}
+
+// Two slots that come home in the other order leave the bank as it was.
+fn lend_two(bank: &mut Bank, first: u32, second: u32)
+    requires first { first < length bank.old.slots }
+    requires second { second < length bank.old.slots }
+    requires apart { first ≢ second }
+    requires first_home { IsTrue (is_home bank.old first) }
+    requires second_home { IsTrue (is_home bank.old second) }
+    ensures { bank.new ≡ bank.old }
+{
+    let one = bank.lend(first);
+    let two = bank.lend(second);
+    bank.give(second, two);
+    bank.give(first, one);
+}
+
+// So do two that come home in the order in which they went.
+fn lend_two_in_turn(bank: &mut Bank, first: u32, second: u32)
+    requires first { first < length bank.old.slots }
+    requires second { second < length bank.old.slots }
+    requires apart { first ≢ second }
+    requires first_home { IsTrue (is_home bank.old first) }
+    requires second_home { IsTrue (is_home bank.old second) }
+    ensures { bank.new ≡ bank.old }
+{
+    let one = bank.lend(first);
+    let two = bank.lend(second);
+    bank.give(first, one);
+    bank.give(second, two);
+}
+
+// A frame that is taken and put back leaves the share as it was.
+fn take_and_put(share: &mut Share)
+    requires { 0 < length share.old.frames }
+    ensures { share.new ≡ share.old }
+{
+    let frame = share.take();
+    share.put(frame);
+}
+
+// Writes over the first byte held.
+fn write_first(buf: &mut Buf, byte: u8)
+    requires { 0 < length buf.old.bytes }
+    ensures bytes { buf.new.bytes ≡ slice_set buf.old.bytes 0 byte }
+    ensures limit { buf.new.limit ≡ buf.old.limit }
+{
+    buf.bytes_mut()[0] = byte;
+}
+
+// Appends twice: what was there before is not lost.
+fn append_two(buf: &mut Buf, one: &[u8], two: &[u8]) -> Result<(), Wide>
+    ensures ok { OnOk result (buf.new.bytes ≡ buf.old.bytes ++ one.now ++ two.now) }
+    ensures within { length buf.new.bytes ≤ buf.new.limit }
+    ensures limit { buf.new.limit ≡ buf.old.limit }
+{
+    buf.append(one)?;
+    buf.append(two)
+}
+
+// Writes over the first byte of the first frame.
+fn write_first_frame(share: &mut Share, byte: u8)
+    requires some { 0 < length share.old.frames }
+    requires long { 0 < share.old.frame_len }
+    ensures stays { SamePlaces share.old share.new }
+    ensures notes { share.new.notes ≡ share.old.notes }
+    ensures len { length share.new.frames ≡ length share.old.frames }
+    ensures frame { (d : List ℕ) → slice_index_or share.new.frames 0 d ≡ slice_set (slice_index_or share.old.frames 0 d) 0 byte }
+{
+    share.frame_mut(0)[0] = byte;
+}
+
+#[test]
+fn a_wide_append_changes_nothing(rt: HostRuntime) -> Result<(), Fail> {
+    let mut buf = Buf::over(Frame::new(rt.alloc(), 8)?, 3);
+    buf.set(b"ab")?;
+    assert_eq!(rt; buf.append(b"cd"), Err(Wide));
+    assert_eq!(rt; buf.bytes(), b"ab".as_slice());
+    Ok(())
+}
+
+#[test]
+fn a_buffer_takes_up_to_its_limit(rt: HostRuntime) -> Result<(), Fail> {
+    let mut buf = Buf::over(Frame::new(rt.alloc(), 8)?, 3);
+    for (bytes, fits) in [
+        (b"".as_slice(), true),
+        (b"ab".as_slice(), true),
+        (b"abc".as_slice(), true),
+        (b"abcd".as_slice(), false),
+    ] {
+        assert_eq!(rt; buf.set(bytes).is_ok(), fits);
+        buf.clear();
+        assert_eq!(rt; buf.append(bytes).is_ok(), fits);
+    }
+    assert_eq!(rt; buf.close().bytes().len(), 8);
+    Ok(())
+}
+
+#[test]
+fn slots_are_lent_and_given_back(rt: HostRuntime) -> Result<(), Fail> {
+    let mut bank = Bank::open(rt.alloc(), 256, &[4, 3, 2], 0)?;
+    let share = bank.lend(1);
+    assert_eq!(rt; (share.size(), share.len()), (3, 3));
+    assert_eq!(rt;
+        (bank.home(0), bank.home(1), bank.home(2)),
+        (true, false, true)
+    );
+    bank.give(1, share);
+    assert!(rt; bank.home(1));
+    Ok(())
+}
+
+#[test]
+fn a_write_reaches_the_bytes(rt: HostRuntime) -> Result<(), Fail> {
+    let mut buf = Buf::over(Frame::new(rt.alloc(), 8)?, 8);
+    buf.set(b"ab")?;
+    write_first(&mut buf, b'c');
+    assert_eq!(rt; buf.bytes(), b"cb".as_slice());
+    Ok(())
+}
+
+#[test]
+fn a_write_reaches_one_frame(rt: HostRuntime) -> Result<(), Fail> {
+    let mut share = Share::full(rt.alloc(), 2, 256)?;
+    write_first_frame(&mut share, 7);
+    assert_eq!(rt; (share.frame(0)[0], share.frame(1)[0]), (7, 0));
+    Ok(())
+}
+
+#[test]
+fn a_note_stays_at_its_place(rt: HostRuntime) -> Result<(), Fail> {
+    let mut share = Share::full(rt.alloc(), 2, 256)?;
+    share.set_note(1, 5, 6);
+    take_and_put(&mut share);
+    assert_eq!(rt; share.note(1), (5, 6));
+    assert_eq!(rt; share.note(0), (0, 0));
+    Ok(())
+}

@@ -1,0 +1,4 @@
+pub mod Posted
+pub mod Calls
+pub mod NoVerdict
+pub mod Saturating

@@ -1,0 +1,10 @@
+//! A vertex in the bytes that it is stored as, held in one frame.
+#![tactic(auto)]
+
+mod body;
+mod vertex;
+
+pub use vertex::VertexBuf;
+
+#[cfg(test)]
+mod tests;
