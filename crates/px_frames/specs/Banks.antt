@@ -1,5 +1,5 @@
 -- A bank: slots that are lent and given back.
-use Rattle.std.specs.Prelude.{◌≤◌, ◌==◌, ◌^◌, ℕ, List, [], ◌∷◌, Bool, true, false, IsTrue, slice_index_or, slice_set}
+use Rattle.std.specs.Prelude.{◌≡◌, ◌≤◌, ◌==◌, ◌^◌, ℕ, List, [], ◌∷◌, Bool, true, false, IsTrue, map, slice_index_or, slice_set}
 use Rattle.std.specs.List.{list_any}
 
 -- whether this is a power of two from 2 ^ 8 to 2 ^ 20
@@ -18,10 +18,12 @@ pub record SlotView : Type 0 where
   pub size : ℕ
   pub home : Bool
 
--- a bank as the length of its frames, and its slots in order
+-- a bank as the length of its frames, its slots in order, the capacity of its slot table, and whether the table is home
 pub record BankView : Type 0 where
   pub frame_len : ℕ
   pub slots : List SlotView
+  pub table_entries : ℕ
+  pub table_home : Bool
 
 -- a slot of this size whose share is home
 abbrev pub slot_home : ℕ → SlotView
@@ -43,3 +45,13 @@ size_of bank i = (slot_at bank i).size
 abbrev pub with_home : BankView → ℕ → Bool → BankView
 with_home bank i b =
     record bank { slots = slice_set bank.slots i (record { size = size_of bank i; home = b }) }
+
+-- the bank with the slot table home or out, and all else as it was
+abbrev pub with_table : BankView → Bool → BankView
+with_table bank b = record bank { table_home = b }
+
+-- what no call on a bank changes: the length of the frames, the sizes of the slots, and the capacity of the slot table
+pub record SameMade (old new : BankView) : Type 0 where
+  pub frame_len : new.frame_len ≡ old.frame_len
+  pub sizes : map (λ (slot : SlotView). slot.size) new.slots ≡ map (λ (slot : SlotView). slot.size) old.slots
+  pub table_entries : new.table_entries ≡ old.table_entries

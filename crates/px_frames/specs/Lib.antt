@@ -3,5 +3,7 @@ pub mod Buffer
 pub mod LendingBuffer
 pub mod Shares
 pub mod LendingShare
+pub mod Tables
+pub mod Entries
 pub mod Banks
 pub mod Slots

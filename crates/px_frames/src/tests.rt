@@ -1,9 +1,9 @@
 ghost use Rattle.std.specs.Prelude.{◌≡◌, ◌≤◌, ◌<◌, ◌≢◌, ◌++◌, IsTrue, List, ℕ, length, slice_set, slice_index_or, OnOk};
 ghost use Rattle.std.specs.Bool.{OnTrue};
-ghost use Rattle.px_frames.specs.Banks.{IsFrameLen, is_home};
+ghost use Rattle.px_frames.specs.Banks.{IsFrameLen, SameMade, is_home};
 ghost use Rattle.px_frames.specs.Shares.{SamePlaces};
 
-use crate::{Bank, Buf, Frame, Share, Wide};
+use crate::{Bank, Buf, Frame, Share, SlotShare, Wide};
 use std::test::Fail;
 
 // Whether this may be the length of a frame.
@@ -56,6 +56,32 @@ fn lend_two_in_turn(bank: &mut Bank, first: u32, second: u32)
     let two = bank.lend(second);
     bank.give(first, one);
     bank.give(second, two);
+}
+
+// A slot and the table that come home in the order in which they went leave the bank as it was.
+fn lend_slot_and_table(bank: &mut Bank, slot: u32)
+    requires in_range { slot < length bank.old.slots }
+    requires slot_home { IsTrue (is_home bank.old slot) }
+    requires table_home { IsTrue bank.old.table_home }
+    ensures { bank.new ≡ bank.old }
+{
+    let share = bank.lend(slot);
+    let table = bank.lend_table();
+    bank.give(slot, share);
+    bank.give_table(table);
+}
+
+// What is out has the sizes that the bank still has.
+fn lend_both(bank: &mut Bank, slot: u32) -> (Share, SlotShare)
+    requires in_range { slot < length bank.old.slots }
+    requires slot_home { IsTrue (is_home bank.old slot) }
+    requires table_home { IsTrue bank.old.table_home }
+    ensures made { SameMade bank.old bank.new }
+    ensures capacity { result.1.capacity ≡ bank.new.table_entries }
+{
+    let share = bank.lend(slot);
+    let table = bank.lend_table();
+    (share, table)
 }
 
 // A frame that is taken and put back leaves the share as it was.
@@ -162,5 +188,53 @@ fn a_note_stays_at_its_place(rt: HostRuntime) -> Result<(), Fail> {
     take_and_put(&mut share);
     assert_eq!(rt; share.note(1), (5, 6));
     assert_eq!(rt; share.note(0), (0, 0));
+    Ok(())
+}
+
+#[test]
+fn entries_hold_the_largest_numbers(rt: HostRuntime) -> Result<(), Fail> {
+    let mut table = SlotShare::new(rt.alloc(), 3)?;
+    table.push(1, 2, 3, 4);
+    table.push(u64::MAX, 65535, 16777215, 16777214);
+    table.push(0, 0, 0, 0);
+    assert_eq!(rt; table.entry(1), (u64::MAX, 65535, 16777215, 16777214));
+    table.set(1, 5, 256, 65536, 255);
+    assert_eq!(rt; table.entry(0), (1, 2, 3, 4));
+    assert_eq!(rt; table.entry(1), (5, 256, 65536, 255));
+    assert_eq!(rt; table.entry(2), (0, 0, 0, 0));
+    Ok(())
+}
+
+#[test]
+fn a_sort_orders_by_vid_and_keeps_each_entry(rt: HostRuntime) -> Result<(), Fail> {
+    let mut table = SlotShare::new(rt.alloc(), 4)?;
+    table.push(u64::MAX, 0, 0, 1);
+    table.push(7, 3, 0, 2);
+    table.push(0, 9, 0, 3);
+    table.push(7, 1, 0, 4);
+    table.sort();
+    assert_eq!(rt;
+        (table.entry(0), table.entry(3)),
+        ((0, 9, 0, 3), (u64::MAX, 0, 0, 1))
+    );
+    let (one, two) = (table.entry(1), table.entry(2));
+    assert_eq!(rt; (one.0, two.0, one.3 + two.3), (7, 7, 6));
+    Ok(())
+}
+
+#[test]
+fn the_table_is_lent_and_given_back(rt: HostRuntime) -> Result<(), Fail> {
+    let mut bank = Bank::open(rt.alloc(), 256, &[2], 2)?;
+    let mut table = bank.lend_table();
+    table.push(1, 2, 3, 4);
+    table.clear();
+    table.push(5, 6, 7, 8);
+    assert_eq!(rt; (table.capacity(), table.len()), (2, 1));
+    assert_eq!(rt; (bank.table_home(), bank.home(0)), (false, true));
+    bank.give_table(table);
+    assert!(rt; bank.table_home());
+    lend_slot_and_table(&mut bank, 0);
+    let (share, table) = lend_both(&mut bank, 0);
+    assert_eq!(rt; (share.size(), table.capacity(), table.len()), (2, 2, 0));
     Ok(())
 }

@@ -7,4 +7,4 @@ pub returns-clause-out : goal.returns-clause-out
 returns-clause-out c =
     let in_range : c.args.slot < length c.self.inside.slots.items = grind (arith, common_steps) in
     rw (← c.self.view_is) (rw (c.deref_mut.ensures.value, c.take.ensures.after)
-    (with_home-set _ _ _ _ _ in_range))
+    (with_home-set _ _ _ _ _ _ _ in_range))

@@ -1,0 +1,205 @@
+// A whole run: from words and a text to a text and a status.
+ghost use Rattle.std.specs.Prelude.{◌≡◌, ◌≢◌, ◌≤◌, ◌<◌, ◌⊎◌, ◌↔◌, ℕ, List, [], ◌++◌, length, take, map, All, None, IfOk, IfErr, OnOk};
+ghost use Rattle.px_core.specs.Counts.{Rose};
+ghost use Rattle.px_meaning.specs.Graph.{IsMap, vertex_size, room_of};
+ghost use Rattle.px_meaning.specs.GraphText.{Good};
+ghost use Rattle.px_tool.specs.CutText.{plain_graph_of};
+ghost use Rattle.px_tool.specs.Lines.{given};
+ghost use Rattle.px_tool.specs.Due.{due, words_of, DueText, frame_bytes, most_bytes};
+ghost use Rattle.px_tool.specs.Endings.{ending_of, text_owed, status_of, line_of};
+ghost use Rattle.px_tool.specs.Clauses.{IsDecided, IsAfterInput, Grew, IsStatus, line_owed, ending_of_end, IsTextEnding, IsRefusal};
+ghost use Rattle.px_tool.specs.Words.{job_of};
+
+use crate::ending::{Ending, Kind};
+use crate::lines::Spelled;
+use crate::text::{TextEnd, plain_text};
+use crate::words::read_words;
+use crate::work::run_graph;
+use px_core::{Disk, Sink, Source, Turns, write_all};
+use std::alloc::{AllocError, Global};
+
+// The bytes of the buffer that the input is read through.
+const BUFFER: usize = 65536;
+
+// The most that a vertex's size may be, with frames of 262144 bytes.
+const ROOM: u32 = 262144 / 2 - 16;
+
+// The greatest length of a text.
+const MOST_BYTES: u64 = 1 << 48;
+
+// How a run ends whose input gave no graph.
+fn ending_of_text(end: TextEnd) -> Ending
+    ensures { result ≡ ending_of_end end }
+{
+    match end {
+        TextEnd::Source => Ending::Source,
+        TextEnd::Memory => Ending::Memory,
+        TextEnd::Bad { line } => Ending::Bad {
+            line,
+            kind: Kind::Form,
+        },
+    }
+}
+
+// A buffer of so many bytes.
+fn buffer_of(alloc: Global, len: usize) -> Result<Vec<u8>, AllocError>
+    ensures { IfOk result (λ b. length b.items ≡ len) }
+{
+    Ok(vec![in alloc; 0u8; len]?)
+}
+
+// The vertices of the text, or how the run ends.
+fn read_vertices<R: Source>(
+    alloc: Global,
+    room: u32,
+    limit: u64,
+    source: &mut R,
+) -> Result<Vec<Spelled>, Ending>
+    requires { 22 ≤ room }
+    ensures good { IfOk result (λ vertices. (l : List ℕ) → R.left source.old l → (plain_graph_of l room limit ≡ Good (map given vertices.items)) × R.left source.new []) }
+    ensures ascending { IfOk result (λ vertices. IsMap (map given vertices.items)) }
+    ensures fit { IfOk result (λ vertices. All (λ e. vertex_size e.1 ≤ room) (map given vertices.items)) }
+    ensures refused { IfErr result (λ e. (l : List ℕ) → R.left source.old l → IsRefusal (plain_graph_of l room limit) e) }
+    ensures kinds { IfErr result IsTextEnding }
+    ensures source { result ≡ Err Ending.Source → Rose (R.faults source.old) (R.faults source.new) }
+    ensures faults { R.faults source.old ≤ R.faults source.new }
+{
+    let Ok(mut buffer) = buffer_of(alloc, BUFFER) else {
+        return Err(Ending::Memory);
+    };
+    match plain_text(alloc, room, limit, source, buffer.as_mut_slice()) {
+        Ok(vertices) => Ok(vertices),
+        Err(end) => Err(ending_of_text(end)),
+    }
+}
+
+// Everything but the writing: the text of the halted state, or how the run ends.
+fn answer<R: Source, T: Turns>(
+    alloc: Global,
+    words: &[String],
+    source: &mut R,
+    turns: &mut T,
+) -> Result<Vec<u8>, Ending>
+    ensures text { IfOk result (λ t. (l : List ℕ) → R.left source.old l → due (words_of words.now) l ≡ DueText t.items) }
+    ensures ending { IfErr result (λ e. IsDecided e → (l : List ℕ) → R.left source.old l → ending_of (due (words_of words.now) l) ≡ e) }
+    ensures early { result ≢ Err Ending.Done }
+    ensures no_sink { result ≢ Err Ending.Sink }
+    ensures read { OnOk result ((l : List ℕ) → R.left source.old l → R.left source.new []) }
+    ensures read_whole { IfErr result (λ e. IsAfterInput e → (l : List ℕ) → R.left source.old l → R.left source.new []) }
+    ensures usage { result ≡ Err Ending.Usage ↔ (job_of (words_of words.now) ≡ None) }
+    ensures unread { result ≡ Err Ending.Usage → source.new ≡ source.old }
+    ensures cause { result ≡ Err Ending.Source → Rose (R.faults source.old) (R.faults source.new) }
+    ensures faults { R.faults source.old ≤ R.faults source.new }
+{
+    let Some(job) = read_words(words) else {
+        return Err(Ending::Usage);
+    };
+    turns.start(0);
+    let vertices = read_vertices(alloc, ROOM, MOST_BYTES, source)?;
+    run_graph(alloc, job, &vertices)
+}
+
+// Writes the text of a halted state.
+fn write_text<W: Sink>(text: &[u8], out: &mut W) -> Ending
+    ensures done { result ≡ Ending.Done → (h : List ℕ) → W.holds out.old h → W.holds out.new (h ++ text.now) }
+    ensures part { result ≡ Ending.Sink → (h : List ℕ) → W.holds out.old h → (n : ℕ) × W.holds out.new (h ++ take n text.now) }
+    ensures cause { result ≡ Ending.Sink → Rose (W.faults out.old) (W.faults out.new) }
+    ensures either { (result ≡ Ending.Done) ⊎ (result ≡ Ending.Sink) }
+    ensures faults { W.faults out.old ≤ W.faults out.new }
+{
+    match write_all(out, text) {
+        Ok(()) => Ending::Done,
+        Err(_) => Ending::Sink,
+    }
+}
+
+// The run without its line on the error sink.
+fn run_to_end<R: Source, W: Sink, T: Turns>(
+    alloc: Global,
+    words: &[String],
+    source: &mut R,
+    out: &mut W,
+    turns: &mut T,
+) -> Ending
+    ensures ending { IsDecided result → (l : List ℕ) → R.left source.old l → ending_of (due (words_of words.now) l) ≡ result }
+    ensures text { result ≡ Ending.Done → (l h : List ℕ) → R.left source.old l → W.holds out.old h → W.holds out.new (h ++ text_owed (due (words_of words.now) l)) }
+    ensures part { result ≡ Ending.Sink → (l h : List ℕ) → R.left source.old l → W.holds out.old h → (n : ℕ) × W.holds out.new (h ++ take n (text_owed (due (words_of words.now) l))) }
+    ensures owed { result ≡ Ending.Sink → (l : List ℕ) → R.left source.old l → ending_of (due (words_of words.now) l) ≡ Ending.Done }
+    ensures unwritten { result ≢ Ending.Done → result ≢ Ending.Sink → out.new ≡ out.old }
+    ensures read { IsAfterInput result → (l : List ℕ) → R.left source.old l → R.left source.new [] }
+    ensures usage { result ≡ Ending.Usage ↔ (job_of (words_of words.now) ≡ None) }
+    ensures unread { result ≡ Ending.Usage → source.new ≡ source.old }
+    ensures source_cause { result ≡ Ending.Source → Rose (R.faults source.old) (R.faults source.new) }
+    ensures sink_cause { result ≡ Ending.Sink → Rose (W.faults out.old) (W.faults out.new) }
+    ensures source_faults { R.faults source.old ≤ R.faults source.new }
+    ensures sink_faults { W.faults out.old ≤ W.faults out.new }
+{
+    match answer(alloc, words, source, turns) {
+        Ok(text) => write_text(&text, out),
+        Err(ending) => ending,
+    }
+}
+
+// Writes the line of an ending. A failure there changes no status.
+fn report<E: Sink>(ending: Ending, errs: &mut E)
+    ensures quiet { ending ≡ Ending.Done → errs.new ≡ errs.old }
+    ensures line { ending ≢ Ending.Done → (e : List ℕ) → E.holds errs.old e → Grew (E.holds errs.new) (Rose (E.faults errs.old) (E.faults errs.new)) e (line_of ending) }
+    ensures faults { E.faults errs.old ≤ E.faults errs.new }
+{
+    if ending != Ending::Done {
+        let line = ending.line();
+        let _ = write_all(errs, line.as_str().as_bytes());
+    }
+}
+
+/// Reads the words and the text, runs the job, writes the text of its halted state to `out`, and answers the status.
+/// Where the status is not 0, one line on `errs` says why. Want of memory is the one answer that anybody may get.
+pub fn px_run<R: Source, W: Sink, E: Sink, G: Disk, S: Disk, T: Turns>(
+    alloc: Global,
+    words: &[String],
+    source: &mut R,
+    out: &mut W,
+    errs: &mut E,
+    graph: &mut G,
+    scratch: &mut S,
+    turns: &mut T,
+) -> u8
+    // The status is that of the one answer that the words and the text owe.
+    ensures statuses { IsStatus result }
+    ensures status { result < 6 → (l : List ℕ) → R.left source.old l → result ≡ status_of (ending_of (due (words_of words.now) l)) }
+    ensures usage { result ≡ 1 ↔ (job_of (words_of words.now) ≡ None) }
+
+    // Where no fault rose and there was memory, it is given.
+    ensures complete { (Rose (R.faults source.old) (R.faults source.new) → ⊥) → (Rose (W.faults out.old) (W.faults out.new) → ⊥) → result ≢ 10
+        → (l : List ℕ) → R.left source.old l → result ≡ status_of (ending_of (due (words_of words.now) l)) }
+
+    // What was written: the text of the halted state, or a prefix where the sink failed, or nothing.
+    ensures text { result ≡ 0 → (l h : List ℕ) → R.left source.old l → W.holds out.old h → W.holds out.new (h ++ text_owed (due (words_of words.now) l)) }
+    ensures part { result ≡ 9 → (l h : List ℕ) → R.left source.old l → W.holds out.old h → (n : ℕ) × W.holds out.new (h ++ take n (text_owed (due (words_of words.now) l))) }
+    ensures unwritten { result ≢ 0 → result ≢ 9 → out.new ≡ out.old }
+
+    // What a fault is the cause of.
+    ensures source_failed { result ≡ 8 → Rose (R.faults source.old) (R.faults source.new) }
+    ensures sink_failed { result ≡ 9 → Rose (W.faults out.old) (W.faults out.new) }
+    ensures sink_owed { result ≡ 9 → (l : List ℕ) → R.left source.old l → status_of (ending_of (due (words_of words.now) l)) ≡ 0 }
+    ensures graph { graph.new ≡ graph.old }
+    ensures scratch { scratch.new ≡ scratch.old }
+
+    // What is left of the input.
+    ensures read { (result ≡ 0) ⊎ (result ≡ 4) ⊎ (result ≡ 5) ⊎ (result ≡ 9) → (l : List ℕ) → R.left source.old l → R.left source.new [] }
+    ensures unread { result ≡ 1 → source.new ≡ source.old }
+
+    // The line on the error sink.
+    ensures quiet { result ≡ 0 → errs.new ≡ errs.old }
+    ensures line { result ≢ 0 → (l e : List ℕ) → R.left source.old l → E.holds errs.old e
+        → Grew (E.holds errs.new) (Rose (E.faults errs.old) (E.faults errs.new)) e (line_owed result (due (words_of words.now) l)) }
+{
+    let _ = graph;
+    let _ = scratch;
+    let ending = run_to_end(alloc, words, source, out, turns);
+    report(ending, errs);
+    ending.status()
+}
+
+#[cfg(test)]
+mod tests;
