@@ -25,16 +25,23 @@ use crate::edges::{Input, Output};
 use crate::ending::Ending;
 use crate::run::px_run;
 use px_core::{ListTurns, NullDisk, write_all};
+use std::io::ErrorKind;
 use std::process::ExitCode;
 use std::{env, io};
 
-// The words after the program's name. Where one of them is not UTF-8 there are none, which px refuses.
+// The words after the program's name.
 fn words_of(rt: &HostRuntime) -> io::Result<Vec<String>> {
     let mut words = Vec::new(rt.alloc());
     for word in env::args(rt)?.skip(1) {
         words.push(word)?;
     }
     Ok(words)
+}
+
+// Says on standard error that there is no memory, and answers that status.
+fn no_memory(errs: &mut Output<io::Stderr>) -> u8 {
+    let _ = write_all(errs, Ending::Memory.line().as_str().as_bytes());
+    Ending::Memory.status()
 }
 
 // The run over the program's standard input and output.
@@ -45,8 +52,7 @@ fn run_over(rt: &HostRuntime, words: &[String]) -> u8 {
     let mut graph = NullDisk::new();
     let mut scratch = NullDisk::new();
     let Ok(mut turns) = ListTurns::new(rt.alloc(), &[]) else {
-        let _ = write_all(&mut errs, Ending::Memory.line().as_str().as_bytes());
-        return Ending::Memory.status();
+        return no_memory(&mut errs);
     };
     px_run(
         rt.alloc(),
@@ -60,10 +66,12 @@ fn run_over(rt: &HostRuntime, words: &[String]) -> u8 {
     )
 }
 
+// Words that are not UTF-8 are refused, as no words are.
 fn main(rt: HostRuntime) -> ExitCode {
-    let words = match words_of(&rt) {
-        Ok(words) => words,
-        Err(_) => Vec::new(rt.alloc()),
+    let status = match words_of(&rt) {
+        Ok(words) => run_over(&rt, &words),
+        Err(e) if e.kind() == ErrorKind::InvalidData => run_over(&rt, &[]),
+        Err(_) => no_memory(&mut Output::new(rt.stderr())),
     };
-    ExitCode::from(run_over(&rt, &words))
+    ExitCode::from(status)
 }

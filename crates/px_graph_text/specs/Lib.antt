@@ -1,0 +1,4 @@
+pub mod Kinds
+pub mod Passing
+pub mod Reading
+pub mod Steps

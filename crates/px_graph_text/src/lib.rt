@@ -1,0 +1,12 @@
+//! Graph text: its vertices one by one, read through one frame.
+#![tactic(auto)]
+
+mod line;
+mod parser;
+mod refusal;
+
+pub use parser::Parser;
+pub use refusal::{Kind, TextStop};
+
+#[cfg(test)]
+mod tests;

@@ -1,0 +1,170 @@
+// Texts from outside, and each call of the source failing in turn.
+ghost use Rattle.std.specs.Prelude.{◌≡◌, ◌≤◌, ◌<◌, ◌++◌, ◌^◌, None, IsFalse, IfOk, IfErr, OnOk, length};
+ghost use Rattle.px_core.specs.Counts.{Rose};
+ghost use Rattle.px_meaning.specs.Graph.{vids};
+ghost use Rattle.px_meaning.specs.GraphText.{offence, lines_of, vertices_given};
+ghost use Rattle.px_graph_text.specs.Reading.{OfRest, IsBad, SameParser};
+
+use crate::{Kind, Parser, TextStop};
+use px_core::{MemSource, Source};
+use px_frames::Frame;
+use px_record::VertexBuf;
+use std::alloc::{AllocError, Global};
+use std::test::Fail;
+
+// Reads a text to its end or to an error, and keeps the vids of its vertices.
+fn read_all<R: Source>(
+    parser: &mut Parser,
+    source: &mut R,
+    into: &mut VertexBuf,
+    found: &mut Vec<u64>,
+) -> Result<Result<(), TextStop>, AllocError>
+    requires { IsFalse parser.old.spent }
+    ensures found { IfOk result (λ end. OnOk end (OfRest (R.left source.old) into.old.room parser.old (λ vs o. found.new.items ≡ found.old.items ++ vids vs))) }
+    ensures good { IfOk result (λ end. OnOk end (OfRest (R.left source.old) into.old.room parser.old (λ vs o. o ≡ None))) }
+    ensures bad { IfOk result (λ end. IfErr end (λ stop. OfRest (R.left source.old) into.old.room parser.old (λ vs o. IsBad stop o))) }
+    ensures cause { IfOk result (λ end. IfErr end (λ stop. stop ≡ TextStop.Source → Rose (R.faults source.old) (R.faults source.new))) }
+    ensures same { SameParser parser.old parser.new }
+{
+    'vertices: loop {
+        match parser.next(source, into) {
+            Ok(true) => found.push(into.vid())?,
+            Ok(false) => return Ok(Ok(())),
+            Err(stop) => return Ok(Err(stop)),
+        }
+    }
+}
+
+// The same from the beginning of a text in memory.
+fn read_text(
+    source: &mut MemSource,
+    frame: Frame,
+    limit: u64,
+    into: &mut VertexBuf,
+    found: &mut Vec<u64>,
+) -> Result<Result<(), TextStop>, AllocError>
+    requires frame { 0 < length frame }
+    requires limit { limit ≤ 2 ^ 48 }
+    ensures found { IfOk result (λ end. OnOk end (found.new.items ≡ found.old.items ++ vids (vertices_given into.old.room (lines_of source.old.left)))) }
+    ensures good { IfOk result (λ end. OnOk end (offence into.old.room limit source.old.left ≡ None)) }
+    ensures bad { IfOk result (λ end. IfErr end (λ stop. IsBad stop (offence into.old.room limit source.old.left))) }
+{
+    let mut parser = Parser::open(frame, limit);
+    read_all(&mut parser, source, into, found)
+}
+
+// Reads this text, of which the calls with the numbers `fails` fail, in frames of so many bytes.
+fn read(
+    alloc: Global,
+    text: &[u8],
+    fails: &[u64],
+    frame: u32,
+    limit: u64,
+    found: &mut Vec<u64>,
+) -> Result<Result<(), TextStop>, AllocError>
+    requires frame { 0 < frame }
+    requires limit { limit ≤ 2 ^ 48 }
+{
+    let mut source = MemSource::new(alloc, text, fails)?;
+    let mut into = VertexBuf::over(Frame::new(alloc, 256)?, 112);
+    let frame = Frame::new(alloc, frame)?;
+    read_text(&mut source, frame, limit, &mut into, found)
+}
+
+const FORM: Result<(), TextStop> = Err(TextStop::Bad {
+    line: 1,
+    kind: Kind::Form,
+});
+
+const NUMBER: Result<(), TextStop> = Err(TextStop::Bad {
+    line: 1,
+    kind: Kind::Number,
+});
+
+const WIDE: Result<(), TextStop> = Err(TextStop::Bad {
+    line: 1,
+    kind: Kind::Wide,
+});
+
+const LONG: Result<(), TextStop> = Err(TextStop::Bad {
+    line: 1,
+    kind: Kind::Long,
+});
+
+// What each text comes to, in frames of 1, 2 and 256 bytes.
+#[test]
+fn texts(rt: HostRuntime) -> Result<(), Fail> {
+    let table: [(&[u8], Result<(), TextStop>, &[u64]); 16] = [
+        (b"", Ok(()), &[]),
+        (b" \t\n# c\n7\r\n", Ok(()), &[7]),
+        (b"7", Ok(()), &[7]),
+        (b"5 6\n5 7\n3\n3\n", Ok(()), &[5, 5, 3, 3]),
+        (b"1 x\n1 2\n", FORM, &[]),
+        (b"1 2:\n", FORM, &[]),
+        (b"1 2:", FORM, &[]),
+        (b"1 2:3:4\n", FORM, &[]),
+        (b"1 18446744073709551616\n", NUMBER, &[]),
+        (b"1 2:4294967296\n", NUMBER, &[]),
+        (b"18446744073709551615 2:4294967295", Ok(()), &[u64::MAX]),
+        (b"0007\t008:009 \r\n#1 x", Ok(()), &[7]),
+        (b"1 2 3 4 5 6 7 8\n", Ok(()), &[1]),
+        (b"1 2 3 4 5 6 7 8 9\n", WIDE, &[]),
+        (b"################", Ok(()), &[]),
+        (b"#################", LONG, &[]),
+    ];
+    for (text, end, vids) in table {
+        let limit = if text.starts_with(b"##") { 16 } else { 1000 };
+        for frame in [1, 2, 256] {
+            let mut found = Vec::new(rt.alloc());
+            let got = read(rt.alloc(), text, &[], frame, limit, &mut found)?;
+            assert_eq!(rt; got, end, "{text:?} in frames of {frame}");
+            assert_eq!(rt; found.as_slice(), vids);
+        }
+    }
+    Ok(())
+}
+
+// The line of an offence counts all lines, and what stands before it is given.
+#[test]
+fn third_line_is_bad(rt: HostRuntime) -> Result<(), Fail> {
+    let mut found = Vec::new(rt.alloc());
+    let got = read(rt.alloc(), b"4\n\n5 6;\n", &[], 2, 1000, &mut found)?;
+    let want = Err(TextStop::Bad {
+        line: 3,
+        kind: Kind::Form,
+    });
+    assert_eq!(rt; got, want);
+    assert_eq!(rt; found.as_slice(), [4].as_slice());
+    Ok(())
+}
+
+#[test]
+fn edges_of_a_line(rt: HostRuntime) -> Result<(), Fail> {
+    let mut source = MemSource::new(rt.alloc(), b"1 2 3:40\r\n", &[])?;
+    let mut parser = Parser::open(Frame::new(rt.alloc(), 3)?, 1000);
+    let mut into = VertexBuf::over(Frame::new(rt.alloc(), 256)?, 112);
+    assert_eq!(rt; parser.next(&mut source, &mut into), Ok(true));
+    assert_eq!(rt; (into.vid(), into.halt(), into.edges()), (1, false, 2));
+    assert!(rt; into.value().is_empty());
+    if into.edges() == 2 {
+        assert_eq!(rt; (into.edge(0), into.edge(1)), ((2, 1), (3, 40)));
+    }
+    Ok(())
+}
+
+// A text of nine bytes in frames of two takes five calls, and its end is found twice: behind the
+// last line, and behind the last vertex.
+#[test]
+fn each_read_fails_in_turn(rt: HostRuntime) -> Result<(), Fail> {
+    for fail in 1..=8 {
+        let mut found = Vec::new(rt.alloc());
+        let got = read(rt.alloc(), b"1 2\n3 4\n5", &[fail], 2, 1000, &mut found)?;
+        let want = if fail < 8 {
+            Err(TextStop::Source)
+        } else {
+            Ok(())
+        };
+        assert_eq!(rt; got, want, "call {fail}");
+    }
+    Ok(())
+}
