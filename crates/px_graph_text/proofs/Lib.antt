@@ -3,4 +3,5 @@ pub mod Ending
 pub mod Frames
 pub mod Leading
 pub mod Passing
+pub mod Sorted
 pub mod Texts

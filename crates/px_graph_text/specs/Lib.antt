@@ -1,4 +1,5 @@
 pub mod Kinds
 pub mod Passing
 pub mod Reading
+pub mod Sorted
 pub mod Steps

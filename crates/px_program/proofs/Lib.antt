@@ -1,1 +1,2 @@
 pub mod SaturatingSums
+pub mod NumberRules

@@ -2,3 +2,4 @@ pub mod Posted
 pub mod Calls
 pub mod NoVerdict
 pub mod Saturating
+pub mod Numbers

@@ -1,5 +1,5 @@
 -- What a status says of the ending.
-use Rattle.std.proofs.Common.{◌≡◌, ℕ, refl}
+use Rattle.std.proofs.Common.{◌≡◌, refl}
 use Rattle.px_tool.specs.Endings.{status_of}
 use Rattle.px_tool.specs.Clauses.{IsStatus}
 use Rattle.px_tool.specs.declared.ending.Ending.{Ending}

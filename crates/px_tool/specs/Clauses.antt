@@ -1,15 +1,14 @@
 -- What the clauses of a run speak of.
-use Rattle.std.specs.Prelude.{◌≡◌, ◌⊎◌, ℕ, ◌||◌, ◌==◌, nat_lt, if◌then◌else◌, IsTrue, List, [], ◌++◌, take}
+use Rattle.std.specs.Prelude.{◌≡◌, ◌⊎◌, ℕ, ◌||◌, ◌==◌, nat_lt, if◌then◌else◌, IsTrue, List, ◌++◌, take}
 use Rattle.px_meaning.specs.GraphText as text
 use Rattle.px_meaning.specs.GraphText.{TextMeaning}
-use Rattle.px_meaning.specs.Line as grammar
+use Rattle.px_graph_text.specs.Kinds.{kind_of}
+use Rattle.px_plain.specs.declared.read.ReadEnd.{ReadEnd}
+use Rattle.px_plain.specs.declared.read.ReadEnd.TheVariants as reads
+use Rattle.px_plain.specs.declared.job.RunEnd.{RunEnd}
+use Rattle.px_plain.specs.declared.job.RunEnd.TheVariants as ends
 use Rattle.px_tool.specs.Due.{Due}
 use Rattle.px_tool.specs.Endings.{ending_of, line_of}
-use Rattle.px_tool.specs.declared.ending.Kind.TheVariants.{Form}
-use Rattle.px_tool.specs.declared.text.TextEnd.{TextEnd}
-use Rattle.px_tool.specs.declared.text.TextEnd.TheVariants.{Source as TextSource, Memory as TextMemory, Bad as TextBad}
-use Rattle.px_tool.specs.declared.job.RunEnd.{RunEnd}
-use Rattle.px_tool.specs.declared.job.RunEnd.TheVariants as ends
 use Rattle.px_tool.specs.declared.ending.Ending.{Ending}
 use Rattle.px_tool.specs.declared.ending.Ending.TheVariants.{Done, Usage, Bad, Twice, Beyond, Limit, Source, Sink, Memory}
 
@@ -63,28 +62,29 @@ IsRunEnding Sink owed = ⊥
 IsRunEnding Memory owed = Unit {0}
 
 -- how a run ends whose input gave no graph
-abbrev pub ending_of_end : TextEnd → Ending
-ending_of_end TextSource = Source
-ending_of_end TextMemory = Memory
-ending_of_end (TextBad line) = Bad line Form
+abbrev pub read_ending : ReadEnd → Ending
+read_ending reads.Source = Source
+read_ending reads.Memory = Memory
+read_ending (reads.Bad line kind) = Bad line kind
+read_ending (reads.Twice v) = Twice v
 
-abbrev pub IsTextEnding : Ending → Type 0
-IsTextEnding Done = ⊥
-IsTextEnding Usage = ⊥
-IsTextEnding (Bad line kind) = Unit {0}
-IsTextEnding (Twice v) = ⊥
-IsTextEnding (Beyond s) = ⊥
-IsTextEnding (Limit n) = ⊥
-IsTextEnding Source = Unit {0}
-IsTextEnding Sink = ⊥
-IsTextEnding Memory = Unit {0}
+abbrev pub IsReadEnding : Ending → Type 0
+IsReadEnding Done = ⊥
+IsReadEnding Usage = ⊥
+IsReadEnding (Bad line kind) = Unit {0}
+IsReadEnding (Twice v) = Unit {0}
+IsReadEnding (Beyond s) = ⊥
+IsReadEnding (Limit n) = ⊥
+IsReadEnding Source = Unit {0}
+IsReadEnding Sink = ⊥
+IsReadEnding Memory = Unit {0}
 
 -- a refusal of the text is the ending
 abbrev pub IsRefusal : TextMeaning → Ending → Type 0
 IsRefusal meaning Done = Unit {0}
 IsRefusal meaning Usage = Unit {0}
-IsRefusal meaning (Bad line kind) = (meaning ≡ text.Bad line grammar.Form) × (kind ≡ Form)
-IsRefusal meaning (Twice v) = Unit {0}
+IsRefusal meaning (Bad line kind) = meaning ≡ text.Bad line (kind_of kind)
+IsRefusal meaning (Twice v) = meaning ≡ text.Twice v
 IsRefusal meaning (Beyond s) = Unit {0}
 IsRefusal meaning (Limit n) = Unit {0}
 IsRefusal meaning Source = Unit {0}

@@ -2,22 +2,22 @@
 use Rattle.std.specs.Prelude.{ℕ, List, [], ◌++◌, codes, decimal}
 use Rattle.px_meaning.specs.Line as grammar
 use Rattle.px_tool.specs.Due.{Due, DueUsage, DueBad, DueTwice, DueBeyond, DueLimit, DueText}
-use Rattle.px_tool.specs.declared.ending.Kind.{Kind}
-use Rattle.px_tool.specs.declared.ending.Kind.TheVariants.{Form, Number, Wide, Long}
+use Rattle.px_graph_text.specs.declared.refusal.Kind.{Kind}
+use Rattle.px_graph_text.specs.declared.refusal.Kind.TheVariants.{Form, Number, Wide, Long}
 use Rattle.px_tool.specs.declared.ending.Ending.{Ending}
 use Rattle.px_tool.specs.declared.ending.Ending.TheVariants.{Done, Usage, Bad, Twice, Beyond, Limit, Source, Sink, Memory}
 
--- a kind of offence as the definitions name it
-abbrev pub kind_of : grammar.Kind → Kind
-kind_of grammar.Form = Form
-kind_of grammar.Number = Number
-kind_of grammar.Wide = Wide
-kind_of grammar.Long = Long
+-- a kind of offence that the definitions name
+abbrev pub kind_named : grammar.Kind → Kind
+kind_named grammar.Form = Form
+kind_named grammar.Number = Number
+kind_named grammar.Wide = Wide
+kind_named grammar.Long = Long
 
 -- how a run ends that owes this, where no device fails and there is memory
 abbrev pub ending_of : Due → Ending
 ending_of DueUsage = Usage
-ending_of (DueBad line kind) = Bad line (kind_of kind)
+ending_of (DueBad line kind) = Bad line (kind_named kind)
 ending_of (DueTwice v) = Twice v
 ending_of (DueBeyond s) = Beyond s
 ending_of (DueLimit n) = Limit n

@@ -1,8 +1,12 @@
 -- What the words of the command line ask for.
-use Rattle.std.specs.Prelude.{ℕ, Bool, true, false, not, ◌&&◌, ◌||◌, ◌+◌, ◌-◌, ◌^◌, if◌then◌else◌, nat_le, ◌==◌, List, [], ◌∷◌, fold, take, drop, length, position, Option, Some, None, codes}
+use Rattle.std.specs.Prelude.{ℕ, Bool, true, false, not, ◌&&◌, ◌||◌, ◌+◌, ◌-◌, ◌^◌, if◌then◌else◌, nat_le, ◌==◌, List, [], ◌∷◌, fold, take, drop, length, position, Option, Some, None, option_map, codes}
 use Rattle.std.specs.List.{list_all}
 use Rattle.px_meaning.specs.Line.{is_digit, with_digit}
 use Rattle.px_tool.specs.declared.words.Job.{Job}
+use Rattle.px_tool.specs.declared.words.Chosen.{Chosen}
+use Rattle.px_tool.specs.declared.words.Chosen.TheVariants.{Reach as ReachFrom, Sssp as SsspFrom, Components as AllComponents, PageRank as PageRankOf}
+use Rattle.px_tool.specs.declared.words.Kind.{Kind}
+use Rattle.px_tool.specs.declared.words.Kind.TheVariants.{Reach, Sssp, Components, PageRank}
 
 -- a name and its value
 abbrev pub Item : Type 0
@@ -68,9 +72,9 @@ abbrev pub are_different : List Item → Bool
 are_different [] = true
 are_different (item ∷ items) = not (has_name item.0 items) && are_different items
 
--- the names of today
+-- the names that an item may have
 abbrev pub is_known : List ℕ → Bool
-is_known name = same_text name (codes "program") || same_text name (codes "from") || same_text name (codes "max-supersteps")
+is_known name = same_text name (codes "program") || same_text name (codes "from") || same_text name (codes "rounds") || same_text name (codes "max-supersteps")
 
 abbrev pub are_known : List Item → Bool
 are_known items = list_all (λ item. is_known item.0) items
@@ -82,31 +86,55 @@ number_of greatest text =
     then Some (fold with_digit 0 text)
     else None
 
--- the program of today
-abbrev pub is_reach : Option (List ℕ) → Bool
-is_reach None = false
-is_reach (Some text) = same_text text (codes "reach")
+-- the programs, each by its name
+abbrev pub kind_of : List ℕ → Option Kind
+kind_of text =
+    if same_text text (codes "reach") then Some Reach
+    else if same_text text (codes "sssp") then Some Sssp
+    else if same_text text (codes "components") then Some Components
+    else if same_text text (codes "pagerank") then Some PageRank
+    else None
 
--- the number that a program starts from is required
-abbrev pub from_of : Option (List ℕ) → Option ℕ
-from_of None = None
-from_of (Some text) = number_of (2 ^ 64 - 1) text
+-- the vid that a program starts from
+abbrev pub vid_of : List ℕ → Option ℕ
+vid_of text = number_of (2 ^ 64 - 1) text
+
+-- a number of rounds or of supersteps
+abbrev pub count_of : List ℕ → Option ℕ
+count_of text = number_of (2 ^ 32 - 1) text
+
+-- a program with the values of `from` and of `rounds`, where these names stand: reach and sssp need `from` and refuse `rounds`, pagerank needs `rounds` and refuses `from`, components refuses both
+abbrev pub chosen_by : Kind → Option (List ℕ) → Option (List ℕ) → Option Chosen
+chosen_by Reach (Some from) None = option_map (λ vid. ReachFrom vid) (vid_of from)
+chosen_by Sssp (Some from) None = option_map (λ vid. SsspFrom vid) (vid_of from)
+chosen_by Components None None = Some AllComponents
+chosen_by PageRank None (Some rounds) = option_map (λ count. PageRankOf count) (count_of rounds)
+chosen_by _ _ _ = None
+
+-- `program` is required
+abbrev pub program_of : Option (List ℕ) → Option Kind
+program_of None = None
+program_of (Some text) = kind_of text
+
+abbrev pub chosen_of : Option Kind → Option (List ℕ) → Option (List ℕ) → Option Chosen
+chosen_of None from rounds = None
+chosen_of (Some kind) from rounds = chosen_by kind from rounds
 
 -- the greatest number of supersteps is 1000 where nothing is said
 abbrev pub most_of : Option (List ℕ) → Option ℕ
 most_of None = Some 1000
-most_of (Some text) = number_of (2 ^ 32 - 1) text
+most_of (Some text) = count_of text
 
-abbrev pub job_with : Option ℕ → Option ℕ → Option Job
+abbrev pub job_with : Option Chosen → Option ℕ → Option Job
 job_with None most = None
-job_with (Some from) None = None
-job_with (Some from) (Some most) = Some (record { from = from; most = most })
+job_with (Some chosen) None = None
+job_with (Some chosen) (Some most) = Some (record { chosen = chosen; most = most })
 
--- the job of items, where their names are known and different and their values are such values
+-- the job of items, where each name is known, none comes twice, and the values are as the program needs them
 abbrev pub job_of_items : List Item → Option Job
 job_of_items items =
-    if are_known items && are_different items && is_reach (value_of (codes "program") items)
-    then job_with (from_of (value_of (codes "from") items)) (most_of (value_of (codes "max-supersteps") items))
+    if are_known items && are_different items
+    then job_with (chosen_of (program_of (value_of (codes "program") items)) (value_of (codes "from") items) (value_of (codes "rounds") items)) (most_of (value_of (codes "max-supersteps") items))
     else None
 
 -- the job that words ask for, or none where they are refused

@@ -1,9 +1,13 @@
 -- The values that words have given so far, and what is asked with the words still to come.
-use Rattle.std.specs.Prelude.{◌≡◌, ℕ, true, not, ◌&&◌, ◌-◌, ◌^◌, if◌then◌else◌, List, [], ◌∷◌, Option, Some, None, option_map, MatchOption, codes}
-use Rattle.px_tool.specs.Words.{Item, Opened, Neither, Whole, Name as Waits, items_from, same_text, is_reach, number_of, job_with}
+use Rattle.std.specs.Prelude.{◌≡◌, ℕ, if◌then◌else◌, List, [], ◌∷◌, Option, Some, None, option_map, MatchOption, codes}
+use Rattle.px_tool.specs.Words.{Item, Opened, Neither, Whole, Name as Waits, items_from, same_text, kind_of, vid_of, count_of, job_with}
 use Rattle.px_tool.specs.declared.words.Job.{Job}
+use Rattle.px_tool.specs.declared.words.Chosen.{Chosen}
+use Rattle.px_tool.specs.declared.words.Chosen.TheVariants.{Reach as ReachFrom, Sssp as SsspFrom, Components as AllComponents, PageRank as PageRankOf}
+use Rattle.px_tool.specs.declared.words.Kind.{Kind}
+use Rattle.px_tool.specs.declared.words.Kind.TheVariants.{Reach, Sssp, Components, PageRank}
 use Rattle.px_tool.specs.declared.words.Name.{Name}
-use Rattle.px_tool.specs.declared.words.Name.TheVariants.{Program, From, MaxSupersteps}
+use Rattle.px_tool.specs.declared.words.Name.TheVariants.{Program, From, Rounds, MaxSupersteps}
 use Rattle.px_tool.specs.declared.words.Word.{Word}
 use Rattle.px_tool.specs.declared.words.Word.TheVariants.{Item as TheItem, Named, Other}
 use Rattle.px_tool.specs.declared.words.Found.{Found}
@@ -14,6 +18,7 @@ use Rattle.px_tool.specs.declared.words.Reading.TheVariants.{AtItem, AtValue}
 abbrev pub text_of : Name → List ℕ
 text_of Program = codes "program"
 text_of From = codes "from"
+text_of Rounds = codes "rounds"
 text_of MaxSupersteps = codes "max-supersteps"
 
 -- the name that is written so
@@ -21,6 +26,7 @@ abbrev pub name_of : List ℕ → Option Name
 name_of text =
     if same_text text (codes "program") then Some Program
     else if same_text text (codes "from") then Some From
+    else if same_text text (codes "rounds") then Some Rounds
     else if same_text text (codes "max-supersteps") then Some MaxSupersteps
     else None
 
@@ -30,19 +36,31 @@ opened_as (Named name) = Waits name.now
 opened_as Other = Neither
 
 -- a value where none was found before
-abbrev pub once : Option ℕ → Option ℕ → Option ℕ
+abbrev pub once : {A : Type 0} → Option A → Option A → Option A
 once None value = value
 once (Some found) value = None
 
 -- the values found, with one more
 abbrev pub with_value : Name → List ℕ → Found → Option Found
-with_value Program value found = if not found.is_reach && is_reach (Some value) then Some (record found { is_reach = true }) else None
-with_value From value found = option_map (λ n. record found { from = Some n }) (once found.from (number_of (2 ^ 64 - 1) value))
-with_value MaxSupersteps value found = option_map (λ n. record found { most = Some n }) (once found.most (number_of (2 ^ 32 - 1) value))
+with_value Program value found = option_map (λ kind. record found { kind = Some kind }) (once found.kind (kind_of value))
+with_value From value found = option_map (λ n. record found { from = Some n }) (once found.from (vid_of value))
+with_value Rounds value found = option_map (λ n. record found { rounds = Some n }) (once found.rounds (count_of value))
+with_value MaxSupersteps value found = option_map (λ n. record found { most = Some n }) (once found.most (count_of value))
+
+-- a program with the numbers found
+abbrev pub chosen_with : Kind → Option ℕ → Option ℕ → Option Chosen
+chosen_with Reach (Some vid) None = Some (ReachFrom vid)
+chosen_with Sssp (Some vid) None = Some (SsspFrom vid)
+chosen_with Components None None = Some AllComponents
+chosen_with PageRank None (Some count) = Some (PageRankOf count)
+chosen_with _ _ _ = None
+
+abbrev pub chosen_found : Found → Option Chosen
+chosen_found found = elim found.kind [ None ↦ None | Some kind ↦ chosen_with kind found.from found.rounds ]
 
 -- the job that found values make
 abbrev pub job_found : Found → Option Job
-job_found found = if found.is_reach then job_with found.from (elim found.most [ None ↦ Some 1000 | Some most ↦ Some most ]) else None
+job_found found = job_with (chosen_found found) (elim found.most [ None ↦ Some 1000 | Some most ↦ Some most ])
 
 -- the job of the values found and of items after them
 abbrev pub job_of_rest : Found → List Item → Option Job

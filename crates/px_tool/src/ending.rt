@@ -1,38 +1,24 @@
 // How a run ends: its status, and its line on the error sink.
 ghost use Rattle.std.specs.Prelude.{◌≡◌, ◌+◌, ◌≤◌, length};
-ghost use Rattle.px_tool.specs.Endings.{status_of, line_of, kind_text, decimal_line};
+ghost use Rattle.px_tool.specs.Endings.{status_of, line_of, kind_text as text_of_kind, decimal_line};
 
 use arrayvec::ArrayString;
 use itoa::Buffer;
+use px_graph_text::Kind;
 
 /// The most bytes of a line on the error sink.
 pub const MOST: usize = 192;
 
-/// Why a line of the text is refused.
-#[derive(Clone, Copy, Debug, PartialEq, Eq)]
-pub enum Kind {
-    /// A byte, or the end of the line, that no good line has there.
-    Form,
-    /// A number passes its greatest value.
-    Number,
-    /// The vertex passes room.
-    Wide,
-    /// The text passes its greatest length.
-    Long,
-}
-
-impl Kind {
-    // The end of the line that names it.
-    fn text(self) -> &'static str
-        ensures text { result.now ≡ kind_text self }
-        ensures short { length result.now ≤ 16 }
-    {
-        match self {
-            Kind::Form => ": form\n",
-            Kind::Number => ": number\n",
-            Kind::Wide => ": wide\n",
-            Kind::Long => ": long\n",
-        }
+// The end of the line that names a kind of refusal.
+fn kind_text(kind: Kind) -> &'static str
+    ensures text { result.now ≡ text_of_kind kind }
+    ensures short { length result.now ≤ 16 }
+{
+    match kind {
+        Kind::Form => ": form\n",
+        Kind::Number => ": number\n",
+        Kind::Wide => ": wide\n",
+        Kind::Long => ": long\n",
     }
 }
 
@@ -108,7 +94,7 @@ impl Ending {
             Ending::Usage => line_with(
                 "px: usage: px --program reach|sssp|components|pagerank|chains|reverse|close|prune [--NAME VALUE ..]\n",
             ),
-            Ending::Bad { line, kind } => with_number("px: line ", line, kind.text()),
+            Ending::Bad { line, kind } => with_number("px: line ", line, kind_text(kind)),
             Ending::Twice { vid } => with_number("px: vertex ", vid, " twice\n"),
             Ending::Beyond { superstep } => with_number(
                 "px: beyond the limits in superstep ",

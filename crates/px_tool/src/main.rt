@@ -1,23 +1,9 @@
 //! px: words, a graph as text, and the answer as text and a status.
 #![tactic(auto)]
 
-mod along;
-mod attach;
-mod compute;
-mod dump;
 mod edges;
-mod empty;
 mod ending;
-mod entry;
-mod group;
-mod input;
-mod job;
-mod lines;
-mod load;
-mod posts;
-mod reach;
 mod run;
-mod text;
 mod words;
 mod work;
 

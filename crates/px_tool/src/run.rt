@@ -1,75 +1,66 @@
 // A whole run: from words and a text to a text and a status.
-ghost use Rattle.std.specs.Prelude.{◌≡◌, ◌≢◌, ◌≤◌, ◌<◌, ◌⊎◌, ◌↔◌, ℕ, List, [], ◌++◌, length, take, map, All, None, IfOk, IfErr, OnOk};
+ghost use Rattle.std.specs.Prelude.{◌≡◌, ◌≢◌, ◌≤◌, ◌<◌, ◌⊎◌, ◌↔◌, ℕ, ◌^◌, List, [], ◌++◌, take, All, None, IfOk, IfErr, OnOk};
 ghost use Rattle.px_core.specs.Counts.{Rose};
-ghost use Rattle.px_meaning.specs.Graph.{IsMap, vertex_size, room_of};
-ghost use Rattle.px_meaning.specs.GraphText.{Good};
-ghost use Rattle.px_tool.specs.CutText.{plain_graph_of};
-ghost use Rattle.px_tool.specs.Lines.{given};
+ghost use Rattle.px_meaning.specs.Graph.{IsMap, room_of};
+ghost use Rattle.px_meaning.specs.GraphText.{Good, graph_of};
+ghost use Rattle.px_plain.specs.Reading.{IsGiven};
+ghost use Rattle.px_plain.specs.Texts.{graph_in};
 ghost use Rattle.px_tool.specs.Due.{due, words_of, DueText, frame_bytes, most_bytes};
 ghost use Rattle.px_tool.specs.Endings.{ending_of, text_owed, status_of, line_of};
-ghost use Rattle.px_tool.specs.Clauses.{IsDecided, IsAfterInput, Grew, IsStatus, line_owed, ending_of_end, IsTextEnding, IsRefusal};
+ghost use Rattle.px_tool.specs.Clauses.{IsDecided, IsAfterInput, Grew, IsStatus, line_owed, read_ending, IsReadEnding, IsRefusal};
 ghost use Rattle.px_tool.specs.Words.{job_of};
 
-use crate::ending::{Ending, Kind};
-use crate::lines::Spelled;
-use crate::text::{TextEnd, plain_text};
+use crate::ending::Ending;
 use crate::words::read_words;
-use crate::work::run_graph;
+use crate::work::{FRAME_BYTES, record_of, run_graph};
 use px_core::{Disk, Sink, Source, Turns, write_all};
-use std::alloc::{AllocError, Global};
-
-// The bytes of the buffer that the input is read through.
-const BUFFER: usize = 65536;
-
-// The most that a vertex's size may be, with frames of 262144 bytes.
-const ROOM: u32 = 262144 / 2 - 16;
+use px_frames::Frame;
+use px_plain::{Entry, ReadEnd, read_graph};
+use px_record::VertexBuf;
+use std::alloc::Global;
 
 // The greatest length of a text.
 const MOST_BYTES: u64 = 1 << 48;
 
 // How a run ends whose input gave no graph.
-fn ending_of_text(end: TextEnd) -> Ending
-    ensures { result ≡ ending_of_end end }
+fn ending_of_read(end: ReadEnd) -> Ending
+    ensures { result ≡ read_ending end }
 {
     match end {
-        TextEnd::Source => Ending::Source,
-        TextEnd::Memory => Ending::Memory,
-        TextEnd::Bad { line } => Ending::Bad {
-            line,
-            kind: Kind::Form,
-        },
+        ReadEnd::Source => Ending::Source,
+        ReadEnd::Memory => Ending::Memory,
+        ReadEnd::Bad { line, kind } => Ending::Bad { line, kind },
+        ReadEnd::Twice { vid } => Ending::Twice { vid },
     }
 }
 
-// A buffer of so many bytes.
-fn buffer_of(alloc: Global, len: usize) -> Result<Vec<u8>, AllocError>
-    ensures { IfOk result (λ b. length b.items ≡ len) }
-{
-    Ok(vec![in alloc; 0u8; len]?)
-}
-
-// The vertices of the text, or how the run ends.
-fn read_vertices<R: Source>(
+// The entries of the text's vertices, or how the run ends. The text is read through a frame of so many bytes.
+fn read_entries<R: Source>(
     alloc: Global,
-    room: u32,
+    frame_bytes: u32,
     limit: u64,
+    v: &mut VertexBuf,
     source: &mut R,
-) -> Result<Vec<Spelled>, Ending>
-    requires { 22 ≤ room }
-    ensures good { IfOk result (λ vertices. (l : List ℕ) → R.left source.old l → (plain_graph_of l room limit ≡ Good (map given vertices.items)) × R.left source.new []) }
-    ensures ascending { IfOk result (λ vertices. IsMap (map given vertices.items)) }
-    ensures fit { IfOk result (λ vertices. All (λ e. vertex_size e.1 ≤ room) (map given vertices.items)) }
-    ensures refused { IfErr result (λ e. (l : List ℕ) → R.left source.old l → IsRefusal (plain_graph_of l room limit) e) }
-    ensures kinds { IfErr result IsTextEnding }
+) -> Result<Vec<Entry>, Ending>
+    requires frame { 0 < frame_bytes }
+    requires limit { limit ≤ 2 ^ 48 }
+    ensures good { IfOk result (λ entries. (l : List ℕ) → R.left source.old l → graph_of l v.old.room limit ≡ Good (graph_in entries.items)) }
+    ensures read { OnOk result ((l : List ℕ) → R.left source.old l → R.left source.new []) }
+    ensures map { IfOk result (λ entries. IsMap (graph_in entries.items)) }
+    ensures given { IfOk result (λ entries. All (IsGiven v.old.room) entries.items) }
+    ensures refused { IfErr result (λ e. (l : List ℕ) → R.left source.old l → IsRefusal (graph_of l v.old.room limit) e) }
+    ensures kinds { IfErr result IsReadEnding }
+    ensures read_whole { IfErr result (λ e. IsAfterInput e → (l : List ℕ) → R.left source.old l → R.left source.new []) }
     ensures source { result ≡ Err Ending.Source → Rose (R.faults source.old) (R.faults source.new) }
     ensures faults { R.faults source.old ≤ R.faults source.new }
+    ensures room { v.new.room ≡ v.old.room }
 {
-    let Ok(mut buffer) = buffer_of(alloc, BUFFER) else {
+    let Ok(frame) = Frame::new(alloc, frame_bytes) else {
         return Err(Ending::Memory);
     };
-    match plain_text(alloc, room, limit, source, buffer.as_mut_slice()) {
-        Ok(vertices) => Ok(vertices),
-        Err(end) => Err(ending_of_text(end)),
+    match read_graph(alloc, frame, limit, v, source) {
+        Ok(entries) => Ok(entries),
+        Err(end) => Err(ending_of_read(end)),
     }
 }
 
@@ -95,8 +86,11 @@ fn answer<R: Source, T: Turns>(
         return Err(Ending::Usage);
     };
     turns.start(0);
-    let vertices = read_vertices(alloc, ROOM, MOST_BYTES, source)?;
-    run_graph(alloc, job, &vertices)
+    let Ok(mut v) = record_of(alloc, FRAME_BYTES) else {
+        return Err(Ending::Memory);
+    };
+    let entries = read_entries(alloc, FRAME_BYTES, MOST_BYTES, &mut v, source)?;
+    run_graph(alloc, job, entries, &mut v)
 }
 
 // Writes the text of a halted state.
@@ -186,7 +180,7 @@ pub fn px_run<R: Source, W: Sink, E: Sink, G: Disk, S: Disk, T: Turns>(
     ensures scratch { scratch.new ≡ scratch.old }
 
     // What is left of the input.
-    ensures read { (result ≡ 0) ⊎ (result ≡ 4) ⊎ (result ≡ 5) ⊎ (result ≡ 9) → (l : List ℕ) → R.left source.old l → R.left source.new [] }
+    ensures read { (result ≡ 0) ⊎ (result ≡ 3) ⊎ (result ≡ 4) ⊎ (result ≡ 5) ⊎ (result ≡ 9) → (l : List ℕ) → R.left source.old l → R.left source.new [] }
     ensures unread { result ≡ 1 → source.new ≡ source.old }
 
     // The line on the error sink.

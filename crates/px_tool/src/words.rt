@@ -1,13 +1,22 @@
 // The words of the command line, read by hand.
 ghost use Rattle.std.specs.Prelude.{◌≡◌, ℕ, ◌==◌, [], true, ◌<◌, ◌^◌, List, SomeIff, map, position, string_bytes};
 ghost use Rattle.px_meaning.specs.Line.{is_digit, with_digit};
-ghost use Rattle.px_tool.specs.Words.{job_of, number_of, opened, cut, begins_with_dash};
-ghost use Rattle.px_tool.specs.WordsFound.{name_of, opened_as, with_value, job_found, job_after, LeadsTo};
+ghost use Rattle.px_tool.specs.Words.{job_of, kind_of, number_of, opened, cut, begins_with_dash};
+ghost use Rattle.px_tool.specs.WordsFound.{name_of, opened_as, with_value, chosen_found, job_found, job_after, LeadsTo};
 
-/// What the words ask for: reachability from a vid, in so many supersteps at most.
+/// The program that the words name, with the number that it needs: the vid that it starts from, or its rounds.
+#[derive(Clone, Copy, Debug, PartialEq, Eq)]
+pub enum Chosen {
+    Reach { from: u64 },
+    Sssp { from: u64 },
+    Components,
+    PageRank { rounds: u32 },
+}
+
+/// What the words ask for: a program, in so many supersteps at most.
 #[derive(Clone, Copy, Debug, PartialEq, Eq)]
 pub struct Job {
-    pub from: u64,
+    pub chosen: Chosen,
     pub most: u32,
 }
 
@@ -16,7 +25,17 @@ pub struct Job {
 enum Name {
     Program,
     From,
+    Rounds,
     MaxSupersteps,
+}
+
+/// A program that may be named.
+#[derive(Clone, Copy)]
+enum Kind {
+    Reach,
+    Sssp,
+    Components,
+    PageRank,
 }
 
 /// What a word is where a name may stand.
@@ -29,8 +48,9 @@ enum Word<'a> {
 /// The values found so far.
 #[derive(Clone, Copy)]
 struct Found {
-    is_reach: bool,
+    kind: Option<Kind>,
     from: Option<u64>,
+    rounds: Option<u32>,
     most: Option<u32>,
 }
 
@@ -60,8 +80,9 @@ impl Reading {
         ensures { (words : List (List ℕ)) → job_after result words ≡ job_of words }
     {
         Reading::AtItem(Found {
-            is_reach: false,
+            kind: None,
             from: None,
+            rounds: None,
             most: None,
         })
     }
@@ -120,19 +141,20 @@ impl Found {
         match name {
             Name::Program => self.with_program(value),
             Name::From => self.with_from(value),
+            Name::Rounds => self.with_rounds(value),
             Name::MaxSupersteps => self.with_most(value),
         }
     }
 
-    #[tactic(auto, using(crate::proofs::WordsText::same_text_is))]
     fn with_program(self, value: &[u8]) -> Option<Self>
         ensures { result ≡ with_value Name.Program value.now self }
     {
-        if self.is_reach || value != b"reach".as_slice() {
+        if self.kind.is_some() {
             return None;
         }
+        let kind = kind_of(value)?;
         Some(Found {
-            is_reach: true,
+            kind: Some(kind),
             ..self
         })
     }
@@ -146,6 +168,19 @@ impl Found {
         let from = number_of(u64::MAX, value)?;
         Some(Found {
             from: Some(from),
+            ..self
+        })
+    }
+
+    fn with_rounds(self, value: &[u8]) -> Option<Self>
+        ensures { result ≡ with_value Name.Rounds value.now self }
+    {
+        if self.rounds.is_some() {
+            return None;
+        }
+        let rounds = number_of(u32::MAX.into(), value)?;
+        Some(Found {
+            rounds: Some(rounds as u32),
             ..self
         })
     }
@@ -166,12 +201,22 @@ impl Found {
     fn job(self) -> Option<Job>
         ensures { result ≡ job_found self }
     {
-        if !self.is_reach {
-            return None;
-        }
-        let from = self.from?;
+        let chosen = self.chosen()?;
         let most = self.most.unwrap_or(DEFAULT_MOST);
-        Some(Job { from, most })
+        Some(Job { chosen, most })
+    }
+
+    // None where no program is named, its number is missing, or a number stands that it has no use for.
+    fn chosen(self) -> Option<Chosen>
+        ensures { result ≡ chosen_found self }
+    {
+        match (self.kind?, self.from, self.rounds) {
+            (Kind::Reach, Some(from), None) => Some(Chosen::Reach { from }),
+            (Kind::Sssp, Some(from), None) => Some(Chosen::Sssp { from }),
+            (Kind::Components, None, None) => Some(Chosen::Components),
+            (Kind::PageRank, None, Some(rounds)) => Some(Chosen::PageRank { rounds }),
+            _ => None,
+        }
     }
 }
 
@@ -213,8 +258,26 @@ fn name_of(text: &[u8]) -> Option<Name>
         Some(Name::Program)
     } else if text == b"from".as_slice() {
         Some(Name::From)
+    } else if text == b"rounds".as_slice() {
+        Some(Name::Rounds)
     } else if text == b"max-supersteps".as_slice() {
         Some(Name::MaxSupersteps)
+    } else {
+        None
+    }
+}
+
+fn kind_of(text: &[u8]) -> Option<Kind>
+    ensures { result ≡ kind_of text.now }
+{
+    if text == b"reach".as_slice() {
+        Some(Kind::Reach)
+    } else if text == b"sssp".as_slice() {
+        Some(Kind::Sssp)
+    } else if text == b"components".as_slice() {
+        Some(Kind::Components)
+    } else if text == b"pagerank".as_slice() {
+        Some(Kind::PageRank)
     } else {
         None
     }
@@ -249,71 +312,4 @@ fn with_digit(number: u64, digit: u8) -> Option<u64>
 }
 
 #[cfg(test)]
-mod tests {
-    use super::*;
-    use std::alloc::{AllocError, Global};
-    use std::test::Fail;
-
-    fn asked(alloc: Global, line: &str) -> Result<Option<Job>, AllocError> {
-        let mut words = Vec::new(alloc);
-        for word in line.split_whitespace() {
-            words.push(String::from_str(alloc, word)?)?;
-        }
-        Ok(read_words(&words))
-    }
-
-    #[test]
-    fn words_that_ask_for_a_job(rt: HostRuntime) -> Result<(), Fail> {
-        for (line, from, most) in [
-            ("--program reach --from 1", 1, 1000),
-            ("--program=reach --from=1 --max-supersteps=2", 1, 2),
-            ("--max-supersteps 2 --from=1 --program reach", 1, 2),
-            ("--from 1 --program=reach --max-supersteps=0", 1, 0),
-            ("--program reach --from 00000000000000000007", 7, 1000),
-            (
-                "--program reach --from 18446744073709551615",
-                u64::MAX,
-                1000,
-            ),
-            (
-                "--program reach --from 1 --max-supersteps 4294967295",
-                1,
-                u32::MAX,
-            ),
-        ] {
-            assert_eq!(rt;
-                asked(rt.alloc(), line)?,
-                Some(Job { from, most }),
-                "{line}"
-            );
-        }
-        Ok(())
-    }
-
-    #[test]
-    fn words_that_are_refused(rt: HostRuntime) -> Result<(), Fail> {
-        for line in [
-            "",
-            "--help",
-            "-h",
-            "--",
-            "--from 1",
-            "--program reach",
-            "--program reach --from",
-            "--program reach 1",
-            "--program reach --from -1",
-            "--program reach --from=-1",
-            "--program reach --from 1 --from 2",
-            "--program reach --from 1 --program reach",
-            "--program reach --from 1 --seed 2",
-            "--program components --from 1",
-            "--from= --program reach",
-            "--program reach --from 18446744073709551616",
-            "--program reach --from 00018446744073709551615",
-            "--program reach --from 1 --max-supersteps 4294967296",
-        ] {
-            assert_eq!(rt; asked(rt.alloc(), line)?, None, "{line}");
-        }
-        Ok(())
-    }
-}
+mod tests;

@@ -1,36 +1,29 @@
-// A job on a graph whose lines were read, from its entries to its text.
-ghost use Rattle.std.specs.Prelude.{◌≡◌, ◌≤◌, ◌+◌, ℕ, true, map, All, IfOk, IfErr};
-ghost use Rattle.px_meaning.specs.Graph.{IsMap, vertex_size, room_of};
+// A job on a graph that was read, from its entries to its text.
+ghost use Rattle.std.specs.Prelude.{◌≡◌, ◌+◌, All, IfOk, IfErr};
+ghost use Rattle.px_meaning.specs.Graph.{IsMap, room_of};
 ghost use Rattle.px_meaning.specs.GraphText.{Good};
+ghost use Rattle.px_meaning.specs.Meaning.{meaning};
+ghost use Rattle.px_plain.specs.Reading.{IsGiven};
+ghost use Rattle.px_plain.specs.Texts.{graph_in};
 ghost use Rattle.px_record.specs.Held.{IsRoomOf};
+ghost use Rattle.px_tool.specs.Clauses.{IsRunEnding, run_ending};
 ghost use Rattle.px_tool.specs.Due.{due_of_text, due_of_outcome, frame_bytes, DueText};
 ghost use Rattle.px_tool.specs.Endings.{ending_of};
-ghost use Rattle.px_tool.specs.Lines.{given};
-ghost use Rattle.px_tool.specs.Clauses.{IsRunEnding, run_ending};
-ghost use Rattle.px_meaning.specs.Step.{State};
-ghost use Rattle.px_meaning.specs.Meaning.{is_halted, first_state, meaning};
-ghost use Rattle.px_meaning.specs.OutputText.{text_of};
-ghost use Rattle.px_tool.specs.Entries.{IsHeld};
-ghost use Rattle.px_tool.specs.Jobs.{Stands};
-ghost use Rattle.px_tool.specs.Load.{FitsRoom};
 
-use crate::dump::text_of_entries;
 use crate::ending::Ending;
-use crate::job::{Job, RunEnd};
-use crate::lines::Spelled;
-use crate::load::entries_of;
-use crate::reach::Reach;
-use crate::words;
+use crate::words::{self, Chosen};
 use px_frames::{Buf, Frame};
+use px_plain::{Entry, Job, RunEnd};
 use px_program::{NoVerdict, Program};
+use px_programs::{Components, PageRank, Reach, Sssp};
 use px_record::VertexBuf;
 use std::alloc::{AllocError, Global};
 
-// The bytes of a frame.
-const FRAME_BYTES: u32 = 262144;
+/// The bytes of a frame.
+pub const FRAME_BYTES: u32 = 262144;
 
-// A record for one vertex, over a frame of its own.
-fn record_of(alloc: Global, frame_bytes: u32) -> Result<VertexBuf, AllocError>
+/// A record for one vertex, over a frame of its own.
+pub fn record_of(alloc: Global, frame_bytes: u32) -> Result<VertexBuf, AllocError>
     requires { IsRoomOf (room_of frame_bytes) frame_bytes }
     ensures { IfOk result (λ v. v.room ≡ room_of frame_bytes) }
 {
@@ -47,47 +40,6 @@ fn buffer_of(alloc: Global, frame_bytes: u32) -> Result<Buf, AllocError>
     Ok(Buf::over(frame, frame_bytes / 2 - 29))
 }
 
-// A program before its first superstep on these vertices.
-fn start<P: Program<Verdict = NoVerdict>>(
-    alloc: Global,
-    program: P,
-    room: u32,
-    v: &mut VertexBuf,
-    vertices: &[Spelled],
-) -> Result<Job<P>, AllocError>
-    requires room { v.old.room ≡ room }
-    requires ascending { IsMap (map given vertices.now) }
-    requires fit { All (FitsRoom v.old.room) vertices.now }
-    ensures stands { IfOk result (λ job. Stands (P.meaning program) job (first_state (P.meaning program) (map given vertices.now))) }
-    ensures program { IfOk result (λ job. job.program ≡ program) }
-    ensures room { IfOk result (λ job. job.room ≡ room) }
-    ensures first { IfOk result (λ job. job.superstep ≡ 0) }
-    ensures record_room { v.new.room ≡ v.old.room }
-{
-    let entries = entries_of(alloc, v, vertices)?;
-    Ok(Job::new(program, room, entries))
-}
-
-// The text of a job that has halted.
-fn finish<P: Program<Verdict = NoVerdict>>(
-    alloc: Global,
-    job: &Job<P>,
-    v: &mut VertexBuf,
-) -> Result<Vec<u8>, AllocError>
-    requires held { All (IsHeld v.old.room) job.now.entries.items }
-    ensures { (s : State) → Stands (P.meaning job.now.program) job.now s → is_halted s ≡ true → IfOk result (λ t. t.items ≡ text_of (P.meaning job.now.program) s) }
-{
-    text_of_entries(
-        alloc,
-        &job.program,
-        &job.entries,
-        job.superstep,
-        job.aggregate,
-        job.count,
-        v,
-    )
-}
-
 // How a run ends that did not come to a halted state.
 fn ending_of_run(end: RunEnd, most: u32) -> Ending
     ensures { result ≡ run_ending most end }
@@ -99,31 +51,28 @@ fn ending_of_run(end: RunEnd, most: u32) -> Ending
     }
 }
 
-// Runs a program on these vertices, in frames of so many bytes.
+// Runs a program on the vertices of these entries, in frames of so many bytes.
 fn run_program<P: Program<Verdict = NoVerdict>>(
     alloc: Global,
     frame_bytes: u32,
     program: P,
     most: u32,
-    vertices: &[Spelled],
+    entries: Vec<Entry>,
+    v: &mut VertexBuf,
 ) -> Result<Vec<u8>, Ending>
-    requires room { IsRoomOf (room_of frame_bytes) frame_bytes }
-    requires ascending { IsMap (map given vertices.now) }
-    requires fit { All (FitsRoom (room_of frame_bytes)) vertices.now }
-    ensures text { IfOk result (λ t. due_of_outcome (P.meaning program) (meaning (P.meaning program) (room_of frame_bytes) (map given vertices.now) most) ≡ DueText t.items) }
-    ensures ending { IfErr result (λ e. IsRunEnding e (ending_of (due_of_outcome (P.meaning program) (meaning (P.meaning program) (room_of frame_bytes) (map given vertices.now) most)))) }
+    requires frame { IsRoomOf (room_of frame_bytes) frame_bytes }
+    requires room { v.old.room ≡ room_of frame_bytes }
+    requires map { IsMap (graph_in entries.items) }
+    requires given { All (IsGiven (room_of frame_bytes)) entries.items }
+    ensures text { IfOk result (λ t. due_of_outcome (P.meaning program) (meaning (P.meaning program) (room_of frame_bytes) (graph_in entries.items) most) ≡ DueText t.items) }
+    ensures ending { IfErr result (λ e. IsRunEnding e (ending_of (due_of_outcome (P.meaning program) (meaning (P.meaning program) (room_of frame_bytes) (graph_in entries.items) most)))) }
 {
-    let Ok(mut v) = record_of(alloc, frame_bytes) else {
-        return Err(Ending::Memory);
-    };
     let Ok(mut fold) = buffer_of(alloc, frame_bytes) else {
         return Err(Ending::Memory);
     };
-    let Ok(mut job) = start(alloc, program, frame_bytes / 2 - 16, &mut v, vertices) else {
-        return Err(Ending::Memory);
-    };
-    match job.run(alloc, most, &mut v, &mut fold) {
-        Ok(()) => match finish(alloc, &job, &mut v) {
+    let mut job = Job::new(program, frame_bytes / 2 - 16, entries);
+    match job.run(alloc, most, v, &mut fold) {
+        Ok(()) => match job.text(alloc, v) {
             Ok(text) => Ok(text),
             Err(_) => Err(Ending::Memory),
         },
@@ -131,12 +80,37 @@ fn run_program<P: Program<Verdict = NoVerdict>>(
     }
 }
 
-/// Runs a job on these vertices. The text is that of the halted state.
-pub fn run_graph(alloc: Global, job: words::Job, vertices: &[Spelled]) -> Result<Vec<u8>, Ending>
-    requires ascending { IsMap (map given vertices.now) }
-    requires fit { All (λ e. vertex_size e.1 ≤ room_of frame_bytes) (map given vertices.now) }
-    ensures text { IfOk result (λ t. due_of_text job (Good (map given vertices.now)) ≡ DueText t.items) }
-    ensures ending { IfErr result (λ e. IsRunEnding e (ending_of (due_of_text job (Good (map given vertices.now))))) }
+/// Runs a job on the vertices of these entries. The text is that of the halted state.
+pub fn run_graph(
+    alloc: Global,
+    job: words::Job,
+    entries: Vec<Entry>,
+    v: &mut VertexBuf,
+) -> Result<Vec<u8>, Ending>
+    requires room { v.old.room ≡ room_of frame_bytes }
+    requires map { IsMap (graph_in entries.items) }
+    requires given { All (IsGiven (room_of frame_bytes)) entries.items }
+    ensures text { IfOk result (λ t. due_of_text job (Good (graph_in entries.items)) ≡ DueText t.items) }
+    ensures ending { IfErr result (λ e. IsRunEnding e (ending_of (due_of_text job (Good (graph_in entries.items))))) }
 {
-    run_program(alloc, FRAME_BYTES, Reach::new(job.from), job.most, vertices)
+    let most = job.most;
+    match job.chosen {
+        Chosen::Reach { from } => {
+            run_program(alloc, FRAME_BYTES, Reach::new(from), most, entries, v)
+        }
+        Chosen::Sssp { from } => {
+            run_program(alloc, FRAME_BYTES, Sssp::new(from), most, entries, v)
+        }
+        Chosen::Components => {
+            run_program(alloc, FRAME_BYTES, Components::new(), most, entries, v)
+        }
+        Chosen::PageRank { rounds } => run_program(
+            alloc,
+            FRAME_BYTES,
+            PageRank::new(rounds),
+            most,
+            entries,
+            v,
+        ),
+    }
 }

@@ -1,4 +1,4 @@
-use Rattle.std.proofs.Common.{◌≡◌, subst, sym, ◌∙◌}
+use Rattle.std.proofs.Common.{subst, sym, ◌∙◌}
 use Rattle.px_tool.specs.Clauses.{IsStatus}
 use Rattle.px_tool.proofs.Statuses.{is_status, is_sink}
 use Rattle.px_tool.proofs.run.px_run.Goals as goal

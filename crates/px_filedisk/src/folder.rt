@@ -1,0 +1,117 @@
+// A folder of page files, of which each is opened at its first use.
+ghost use Rattle.std.specs.Prelude.{◌↔◌, IsTrue};
+ghost use Rattle.px_filedisk.specs.Names.{IsPageFile};
+
+use crate::block::{STAMP, place_of, stamp_of};
+use std::alloc::{AllocError, Global};
+use std::collections::BTreeMap;
+use std::collections::btree_map::Entry;
+use std::fs::{File, OpenOptions};
+use std::io::ErrorKind;
+use std::os::unix::fs::FileExt;
+use std::path::Path;
+use std::{fs, io};
+
+/// The page files of a folder, file n under the name `f` followed by n in decimal. No contract says what they hold.
+#[derive(Drop)]
+pub struct Folder {
+    runtime: HostRuntime,
+    alloc: Global,
+    path: String,
+    open: BTreeMap<u32, File>,
+}
+
+// Whether a page file may have this name.
+fn is_page_file(name: &str) -> bool
+    ensures { IsTrue result ↔ IsPageFile name.now }
+{
+    match name.as_bytes() {
+        [b'f', digits @ ..] => !digits.is_empty()
+            && digits.iter().all(|byte| byte.is_ascii_digit()),
+        _ => false,
+    }
+}
+
+// Opens a page file without pages.
+fn open_empty(runtime: &HostRuntime, alloc: Global, folder: &str, number: u32) -> io::Result<File> {
+    let name = format!(in alloc; "f{number}")?;
+    let path = Path::new(folder).join(alloc, name.as_str())?;
+    OpenOptions::new()
+        .read(true)
+        .write(true)
+        .create(true)
+        .truncate(true)
+        .open(runtime, path.as_path())
+}
+
+impl Folder {
+    pub fn new(runtime: HostRuntime, alloc: Global, path: &str) -> Result<Folder, AllocError> {
+        let path = String::from_str(alloc, path)?;
+        Ok(Folder {
+            runtime,
+            alloc,
+            path,
+            open: BTreeMap::new(alloc),
+        })
+    }
+
+    /// Makes the folder where it is missing, and removes the page files that an earlier run left.
+    pub fn empty(&mut self) -> io::Result<()> {
+        self.open.clear();
+        let path = self.path.as_str();
+        fs::create_dir_all(&self.runtime, path)?;
+        for entry in fs::read_dir(&self.runtime, path)? {
+            match entry {
+                Ok(entry) if is_page_file(entry.file_name()) => {
+                    fs::remove_file(&self.runtime, entry.path())?;
+                }
+                Ok(_) => {}
+                // A name that is no text is none of ours.
+                Err(e) if e.kind() == ErrorKind::InvalidFilename => {}
+                Err(e) => return Err(e),
+            }
+        }
+        Ok(())
+    }
+
+    // A page file. It is emptied at its first use, so that nothing is read that an earlier run left.
+    fn file(&mut self, number: u32) -> io::Result<&File> {
+        match self.open.entry(number)? {
+            Entry::Occupied(entry) => Ok(entry.into_mut()),
+            Entry::Vacant(entry) => {
+                let file = open_empty(&self.runtime, self.alloc, self.path.as_str(), number)?;
+                Ok(entry.insert(file))
+            }
+        }
+    }
+
+    /// Reads a page. A block that is short or has another page's stamp is an error.
+    pub fn read(&mut self, number: u32, page: u64, into: &mut [u8]) -> io::Result<()> {
+        let Some(at) = place_of(page, into.len()) else {
+            return Err(io::Error::from(ErrorKind::InvalidInput));
+        };
+        let file = self.file(number)?;
+        let mut stamp = [0; 16];
+        file.read_exact_at(&mut stamp, at)?;
+        file.read_exact_at(into, at + STAMP)?;
+        if stamp != stamp_of(number, page) {
+            return Err(io::Error::from(ErrorKind::InvalidData));
+        }
+        Ok(())
+    }
+
+    /// Writes a page. After an error a part of its block may have been written.
+    pub fn write(&mut self, number: u32, page: u64, from: &[u8]) -> io::Result<()> {
+        let Some(at) = place_of(page, from.len()) else {
+            return Err(io::Error::from(ErrorKind::InvalidInput));
+        };
+        let file = self.file(number)?;
+        file.write_all_at(&stamp_of(number, page), at)?;
+        file.write_all_at(from, at + STAMP)
+    }
+
+    /// Takes the pages of a file away.
+    pub fn clear(&mut self, number: u32) -> io::Result<()> {
+        self.file(number)?.set_len(0)
+    }
+}

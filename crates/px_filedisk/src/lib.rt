@@ -1,0 +1,11 @@
+//! A disk of real files in a folder.
+#![tactic(auto)]
+
+mod block;
+mod disk;
+mod folder;
+
+pub use disk::FileDisk;
+
+#[cfg(test)]
+mod tests;

@@ -1,0 +1,77 @@
+// What no clause says: that the calls can answer Ok, and the trait used through its bound.
+ghost use Rattle.std.specs.Prelude.{◌≡◌, true, length, IfOk, OnOk};
+
+use crate::MemDisk;
+use px_core::{Disk, Failed};
+use std::test::Fail;
+
+// Starts a disk, writes the first page of a file and reads it. On a disk that tells, the bytes come back.
+fn write_and_read<D: Disk>(
+    disk: &mut D,
+    frame_bytes: u32,
+    from: &[u8],
+    into: &mut [u8],
+) -> Result<(), Failed>
+    requires from { length from.now ≡ frame_bytes }
+    requires into { length into.old ≡ frame_bytes }
+    ensures { (D.shown disk.old).tells ≡ true → OnOk result (into.new ≡ from.now) }
+{
+    disk.start(frame_bytes)?;
+    disk.write(7, 0, from)?;
+    disk.read(7, 0, into)?;
+    Ok(())
+}
+
+// This disk tells.
+fn write_and_read_here(disk: &mut MemDisk, from: &[u8; 4]) -> Result<[u8; 4], Failed>
+    ensures { IfOk result (λ bytes. bytes ≡ from.now) }
+{
+    let mut bytes = [0; 4];
+    write_and_read(disk, 4, from, &mut bytes)?;
+    Ok(bytes)
+}
+
+#[test]
+fn a_page_comes_back(rt: HostRuntime) -> Result<(), Fail> {
+    let mut disk = MemDisk::new(rt.alloc(), &[])?;
+    assert_eq!(rt; write_and_read_here(&mut disk, b"abcd"), Ok(*b"abcd"));
+    Ok(())
+}
+
+#[test]
+fn pages_are_added_and_replaced(rt: HostRuntime) -> Result<(), Fail> {
+    let mut disk = MemDisk::new(rt.alloc(), &[])?;
+    disk.start(4)?;
+    for (page, byte) in [(0, b'a'), (1, b'b'), (3, b'?'), (0, b'A')] {
+        disk.write(u32::MAX, page, &[byte; 4])?;
+    }
+    for (page, byte) in [(0, b'A'), (1, b'b'), (2, 0), (3, 0)] {
+        let mut bytes = *b"....";
+        disk.read(u32::MAX, page, &mut bytes)?;
+        assert_eq!(rt; bytes, [byte; 4], "page {page}");
+    }
+    disk.clear(u32::MAX)?;
+    let mut bytes = *b"....";
+    disk.read(u32::MAX, 0, &mut bytes)?;
+    assert_eq!(rt; bytes, *b"\0\0\0\0");
+    assert_eq!(rt; (disk.reads(), disk.writes(), disk.short()), (5, 4, 0));
+    Ok(())
+}
+
+#[test]
+fn each_call_fails_in_turn(rt: HostRuntime) -> Result<(), Fail> {
+    for fail in 1..=5 {
+        let mut disk = MemDisk::new(rt.alloc(), &[fail])?;
+        let failed = [
+            disk.start(0).is_err(),
+            disk.write(1, 0, &[]).is_err(),
+            disk.read(1, 0, &mut []).is_err(),
+            disk.clear(1).is_err(),
+        ];
+        for (call, failed) in (1..).zip(failed) {
+            assert_eq!(rt; failed, call == fail, "call {call}");
+        }
+        assert_eq!(rt; disk.short(), 0);
+    }
+    Ok(())
+}

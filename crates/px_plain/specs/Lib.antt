@@ -1,0 +1,10 @@
+pub mod Attached
+pub mod Ends
+pub mod Entries
+pub mod Groups
+pub mod Jobs
+pub mod Phase
+pub mod Posts
+pub mod Reading
+pub mod Runs
+pub mod Texts

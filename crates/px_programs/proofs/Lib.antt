@@ -1,0 +1,3 @@
+pub mod AlongSteps
+pub mod PostSteps
+mod Rows

@@ -1,0 +1,57 @@
+// Sending along the edges of a vertex.
+ghost use Rattle.std.specs.Prelude.{◌≡◌, ◌≢◌, ◌≤◌, ℕ, OnOk, OnErr, IsTrue};
+ghost use Rattle.px_core.specs.Counts.{Rose};
+ghost use Rattle.px_program.specs.Numbers.{lesser_rule};
+ghost use Rattle.px_program.specs.Posted.{Posted, IsBeyond};
+ghost use Rattle.px_record.specs.Held.{IsWithin};
+ghost use Rattle.px_programs.specs.Along.{along, distances, with_sends, SendsPart};
+
+use crate::numbers::bytes_of;
+use px_core::Stop;
+use px_program::Outbox;
+use px_record::VertexBuf;
+
+/// Sends the payload along each edge, in order.
+pub fn send_along<O: Outbox>(v: &VertexBuf, payload: &[u8], out: &mut O) -> Result<(), Stop>
+    requires open { IsTrue (O.is_open out.old) }
+    requires valid { IsTrue ((O.made_for out.old).message.valid payload.now) }
+
+    ensures ok { OnOk result ((p : Posted) → O.took out.old p → O.took out.new (with_sends (along payload.now v.now.vertex.edges) p)) }
+    ensures open { OnOk result (IsTrue (O.is_open out.new)) }
+    ensures err { OnErr result ((p : Posted) → O.took out.old p → (made : Posted) × SendsPart (along payload.now v.now.vertex.edges) p made × O.took out.new made) }
+    ensures beyond { result ≡ Err Stop.Beyond → (p : Posted) → O.took out.old p → (made : Posted) × SendsPart (along payload.now v.now.vertex.edges) p made × IsBeyond (O.made_for out.old) made }
+    ensures scratch { result ≡ Err Stop.Scratch → Rose (O.faults out.old) (O.faults out.new) }
+    ensures no_graph { result ≢ Err Stop.Graph }
+    ensures faults { O.faults out.old ≤ O.faults out.new }
+    ensures stays { O.made_for out.new ≡ O.made_for out.old }
+    ensures within { IsWithin v.now }
+{
+    for i in 0..v.edges() {
+        let (dst, _) = v.edge(i);
+        out.send(dst, payload)?;
+    }
+    Ok(())
+}
+
+/// Sends along each edge, in order, the distance to its target, where the vertex has the distance `d`.
+pub fn send_distances<O: Outbox>(v: &VertexBuf, d: u64, out: &mut O) -> Result<(), Stop>
+    requires open { IsTrue (O.is_open out.old) }
+    requires message { (O.made_for out.old).message ≡ lesser_rule }
+
+    ensures ok { OnOk result ((p : Posted) → O.took out.old p → O.took out.new (with_sends (distances d v.now.vertex.edges) p)) }
+    ensures open { OnOk result (IsTrue (O.is_open out.new)) }
+    ensures err { OnErr result ((p : Posted) → O.took out.old p → (made : Posted) × SendsPart (distances d v.now.vertex.edges) p made × O.took out.new made) }
+    ensures beyond { result ≡ Err Stop.Beyond → (p : Posted) → O.took out.old p → (made : Posted) × SendsPart (distances d v.now.vertex.edges) p made × IsBeyond (O.made_for out.old) made }
+    ensures scratch { result ≡ Err Stop.Scratch → Rose (O.faults out.old) (O.faults out.new) }
+    ensures no_graph { result ≢ Err Stop.Graph }
+    ensures faults { O.faults out.old ≤ O.faults out.new }
+    ensures stays { O.made_for out.new ≡ O.made_for out.old }
+    ensures within { IsWithin v.now }
+{
+    for i in 0..v.edges() {
+        let (dst, weight) = v.edge(i);
+        let payload = bytes_of(d.saturating_add(u64::from(weight)));
+        out.send(dst, &payload)?;
+    }
+    Ok(())
+}

@@ -1,0 +1,132 @@
+// pagerank: how often a walk that follows edges at random is at a vertex.
+ghost use Rattle.std.specs.Prelude.{◌≡◌, ◌/◌, option_copied, option_map};
+ghost use Rattle.px_meaning.specs.Merge.{IsValidMessage};
+ghost use Rattle.px_program.specs.Numbers.{number, sum_rule};
+ghost use Rattle.px_programs.specs.PageRank.{pagerank, pagerank_laws, rank_of, new_rank};
+
+use crate::along::send_along;
+use crate::numbers::{bytes_of, heard, number_of, print_number};
+use crate::sum::Sum;
+use px_core::{Failed, Sink, Stop};
+use px_frames::Wide;
+use px_program::{At, NoVerdict, Outbox, Program, Settled};
+use px_record::VertexBuf;
+
+// What all vertices share, and 15 percent of it.
+const SCALE: u64 = 1_000_000_000_000;
+
+const RESTART: u64 = 150_000_000_000;
+
+/// Ranks vertices by how often a walk is at them that follows a random edge 85 times in 100, and
+/// else goes on from any vertex. The ranks are parts of 10^12 after so many rounds, and the
+/// aggregate is the sum of the last ones. What a vertex without edges would send is lost.
+#[derive(Clone, Copy, Debug, PartialEq, Eq)]
+pub struct PageRank {
+    pub rounds: u32,
+    message: Sum,
+    verdict: NoVerdict,
+}
+
+impl PageRank {
+    pub fn new(rounds: u32) -> PageRank
+        ensures { result.rounds ≡ rounds }
+    {
+        PageRank {
+            rounds,
+            message: Sum,
+            verdict: NoVerdict,
+        }
+    }
+
+    // The new rank of a vertex, until the last round is over.
+    fn new_rank(&self, at: &At, msg: Option<&[u8]>) -> Option<u64>
+        ensures { IsValidMessage sum_rule (option_copied msg.entry)
+            → result ≡ new_rank self.now.rounds at.now.superstep at.now.count (option_map number (option_copied msg.entry)) }
+    {
+        if at.superstep == 0 {
+            Some(SCALE / at.count.max(1))
+        } else if at.superstep > u64::from(self.rounds) {
+            None
+        } else {
+            Some(rank_of(at.count, heard(msg).unwrap_or(0)))
+        }
+    }
+}
+
+// The rank of one of so many vertices, where the shares sent to it have this sum.
+fn rank_of(count: u64, sum: u64) -> u64
+    ensures { result ≡ rank_of count sum }
+{
+    let walked = u128::from(sum) * 85 / 100;
+    (RESTART / count.max(1)).saturating_add(walked as u64)
+}
+
+// An equal part of a rank for each of so many edges.
+fn share_of(rank: u64, edges: u64) -> u64
+    ensures { result ≡ rank / edges }
+{
+    if edges == 0 { 0 } else { rank / edges }
+}
+
+impl Program for PageRank {
+    type Message = Sum;
+
+    type Verdict = NoVerdict;
+
+    ghost meaning = { λ p. pagerank p.rounds };
+
+    ghost laws = { λ p. pagerank_laws p.rounds };
+
+    fn message(&self) -> &Sum {
+        &self.message
+    }
+
+    fn verdict(&self) -> &NoVerdict {
+        &self.verdict
+    }
+
+    fn compute<O: Outbox>(
+        &self,
+        at: &At,
+        v: &mut VertexBuf,
+        msg: Option<&[u8]>,
+        out: &mut O,
+    ) -> Result<(), Stop> {
+        let edges = u64::from(v.edges());
+        let Some(rank) = self.new_rank(at, msg) else {
+            v.set_halt(true);
+            return Ok(());
+        };
+        let is_last = at.superstep >= u64::from(self.rounds);
+        v.set_halt(is_last);
+        if v.set_value(&bytes_of(rank)).is_err() {
+            return Err(Stop::Beyond);
+        }
+        out.contribute(rank);
+        if is_last {
+            return Ok(());
+        }
+        send_along(v, &bytes_of(share_of(rank, edges)), out)
+    }
+
+    fn settle(
+        &self,
+        _existing: bool,
+        _v: &mut VertexBuf,
+        _verdict: &[u8],
+    ) -> Result<Settled, Wide> {
+        Ok(Settled::Keep)
+    }
+
+    fn unit(&self) -> u64 {
+        0
+    }
+
+    fn join(&self, a: u64, b: u64) -> u64 {
+        a.saturating_add(b)
+    }
+
+    fn print_value<W: Sink>(&self, v: &VertexBuf, sink: &mut W) -> Result<(), Failed> {
+        print_number(number_of(v.value()), sink)
+    }
+}

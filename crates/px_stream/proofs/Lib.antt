@@ -1,0 +1,4 @@
+pub mod Kept
+pub mod Counting
+mod Writing
+mod Reading

@@ -1,0 +1,299 @@
+// A file of tuples is read.
+ghost use Rattle.std.specs.Prelude.{◌≡◌, ◌≢◌, ◌<◌, ◌≤◌, ◌+◌, ◌-◌, ◌↔◌, [], ◌∷◌, ℕ, List, length, IsTrue, OnOk, OnErr, IfErr, IfSome, IfOk, IfNone, OnSome, IsOk, IsOkAnd, IsSomeAnd, ⊤};
+ghost use Rattle.px_core.specs.Counts.{Rose, bumped};
+ghost use Rattle.px_core.specs.Shown.{Shown, Touches, NoFile};
+ghost use Rattle.px_frames.specs.Buffer.{SameRoom, IsWithin};
+ghost use Rattle.px_pages.specs.Entry.{Entry};
+ghost use Rattle.px_pages.specs.Page.{IsPageLen, room_of, entry_of};
+ghost use Rattle.px_stream.specs.Views.{here_of};
+
+use crate::paging::read_page;
+use px_core::{Disk, Stop, Vid};
+use px_frames::{Buf, Frame, Wide};
+use px_pages::{PageReader, Tuple};
+use std::marker::Model;
+
+/// What stands before the body of a tuple.
+#[derive(Clone, Copy, Debug, PartialEq, Eq)]
+pub struct Head {
+    pub key: Vid,
+    /// One of `px_pages::tags`.
+    pub tag: u8,
+}
+
+/// Gives the tuples of a file, page by page. Each page is read once, and only when none is left of the one before.
+/// The only error is `Stop::Scratch`, where the disk failed; after it nothing is said of the tuples until the next `start`.
+#[derive(Drop)]
+pub struct Reader {
+    frame: Frame,
+    file: u32,
+    page: u64,
+    pages: u64,
+    // None until a page is in the frame.
+    tuples: Option<PageReader>,
+}
+
+impl Model for Reader {
+    ghost use Rattle.std.specs.Prelude.{◌≤◌, length};
+    ghost use Rattle.px_pages.specs.Page.{IsPageLen};
+    ghost use Rattle.px_stream.specs.Views.{ReaderView, here_of};
+
+    ghost Value = { ReaderView };
+
+    ghost view = { λ r. record {
+      file = r.file;
+      page = r.page;
+      pages = r.pages;
+      page_len = length r.frame;
+      here = here_of r.tuples r.frame;
+    } };
+
+    ghost invariant = { λ r. IsPageLen (length r.frame) × (r.page ≤ r.pages) };
+}
+
+impl Reader {
+    ghost use Rattle.px_stream.specs.Counts.{bumped_by, unread, left};
+    ghost use Rattle.px_stream.specs.Stream.{ToGive, Holds, Leads, Shows, IsOver, tuple, first_body, body_within};
+
+    /// A reader of this file that has nothing to give. Pages are as long as the frame.
+    pub fn new(frame: Frame, file: u32) -> Reader
+        requires { IsPageLen (length frame) }
+        ensures file { result.file ≡ file }
+        ensures page_len { result.page_len ≡ length frame }
+        ensures page { result.page ≡ 0 }
+        ensures pages { result.pages ≡ 0 }
+        ensures here { result.here ≡ [] }
+    {
+        Reader {
+            frame,
+            file,
+            page: 0,
+            pages: 0,
+            tuples: None,
+        }
+    }
+
+    /// Goes to the front of the file, of which this is the number of pages, as its writer's `pages` gave it. It reads no page.
+    pub fn start(&mut self, pages: u64)
+        ensures to_give { (s : Shown) (l : List Entry) → Holds s self.old.file pages l → ToGive s self.new l }
+        ensures page { self.new.page ≡ 0 }
+        ensures pages { self.new.pages ≡ pages }
+        ensures here { self.new.here ≡ [] }
+        ensures file { self.new.file ≡ self.old.file }
+        ensures page_len { self.new.page_len ≡ self.old.page_len }
+    {
+        self.tuples = None;
+        self.page = 0;
+        self.pages = pages;
+    }
+
+    // Reads the next page.
+    fn turn<D: Disk>(&mut self, disk: &mut D) -> Result<(), Stop>
+        requires page_len { self.old.page_len ≡ (D.shown disk.old).page_len }
+        requires more { self.old.page < self.old.pages }
+        requires empty { self.old.here ≡ [] }
+        ensures to_give { OnOk result ((l : List Entry) → ToGive (D.shown disk.old) self.old l → ToGive (D.shown disk.new) self.new l) }
+        ensures kept { OnOk result (Touches NoFile (D.shown disk.old) (D.shown disk.new)) }
+        ensures touches { Touches (λ f. f ≡ self.old.file) (D.shown disk.old) (D.shown disk.new) }
+        ensures only { IfErr result (λ e. e ≡ Stop.Scratch) }
+        ensures rose { OnErr result (Rose (D.shown disk.old).faults (D.shown disk.new).faults) }
+        ensures reads { OnOk result ((D.shown disk.new).reads ≡ bumped (D.shown disk.old).reads) }
+        ensures reads_err { OnErr result ((D.shown disk.new).reads ≡ (D.shown disk.old).reads) }
+        ensures writes { (D.shown disk.new).writes ≡ (D.shown disk.old).writes }
+        ensures page { OnOk result (self.new.page ≡ self.old.page + 1) }
+        ensures same_err { OnErr result (self.new ≡ self.old) }
+        ensures falls { OnOk result (left self.new < left self.old) }
+        ensures file { self.new.file ≡ self.old.file }
+        ensures pages { self.new.pages ≡ self.old.pages }
+        ensures page_len { self.new.page_len ≡ self.old.page_len }
+    {
+        read_page(disk, self.file, self.page, &mut self.frame)?;
+        self.page += 1;
+        let tuples = PageReader::open(self.frame.bytes());
+        self.tuples = Some(tuples);
+        Ok(())
+    }
+
+    // Reads on to a page with a tuple, or to the end.
+    fn settle<D: Disk>(&mut self, disk: &mut D) -> Result<(), Stop>
+        requires { self.old.page_len ≡ (D.shown disk.old).page_len }
+        ensures to_give { OnOk result ((l : List Entry) → ToGive (D.shown disk.old) self.old l → ToGive (D.shown disk.new) self.new l) }
+        ensures settled { OnOk result (self.new.here ≡ [] → self.new.page ≡ self.new.pages) }
+        ensures ready { (self.old.here ≢ []) → IsOk result }
+        ensures still { (self.old.here ≢ []) → self.new ≡ self.old }
+        ensures untouched { (self.old.here ≢ []) → D.shown disk.new ≡ D.shown disk.old }
+        ensures kept { OnOk result (Touches NoFile (D.shown disk.old) (D.shown disk.new)) }
+        ensures touches { Touches (λ f. f ≡ self.old.file) (D.shown disk.old) (D.shown disk.new) }
+        ensures only { IfErr result (λ e. e ≡ Stop.Scratch) }
+        ensures rose { OnErr result (Rose (D.shown disk.old).faults (D.shown disk.new).faults) }
+        ensures reads { (D.shown disk.new).reads ≡ bumped_by (self.new.page - self.old.page) (D.shown disk.old).reads }
+        ensures unread { (D.shown disk.new).reads + unread self.new ≤ (D.shown disk.old).reads + unread self.old }
+        ensures writes { (D.shown disk.new).writes ≡ (D.shown disk.old).writes }
+        ensures left { left self.new ≤ left self.old }
+        ensures page { self.old.page ≤ self.new.page }
+        ensures last { self.new.page ≤ self.new.pages }
+        ensures file { self.new.file ≡ self.old.file }
+        ensures pages { self.new.pages ≡ self.old.pages }
+        ensures page_len { self.new.page_len ≡ self.old.page_len }
+    {
+        let pages = self.pages;
+        while self.edge() && self.page < pages {
+            self.turn(disk)?;
+        }
+        Ok(())
+    }
+
+    // The next tuple of the page in the frame. A body above the buffer's limit, which no writer wrote, is left out.
+    fn take_one(&mut self, into: &mut Buf) -> Option<Head>
+        ensures none { IfNone result (self.old.here ≡ []) }
+        ensures same { IfNone result (self.new ≡ self.old) }
+        ensures unused { IfNone result (into.new ≡ into.old) }
+        ensures some { IfSome result (λ h. self.old.here ≡ tuple h (first_body self.old.here) ∷ self.new.here) }
+        ensures body { OnSome result (into.new.bytes ≡ body_within into.old.limit (first_body self.old.here)) }
+        ensures within { OnSome result (IsWithin into.new) }
+        ensures room { SameRoom into.old into.new }
+        ensures file { self.new.file ≡ self.old.file }
+        ensures page { self.new.page ≡ self.old.page }
+        ensures pages { self.new.pages ≡ self.old.pages }
+        ensures page_len { self.new.page_len ≡ self.old.page_len }
+    {
+        match next_in(&mut self.tuples, self.frame.bytes()) {
+            None => None,
+            Some(found) => {
+                let at = found.at as usize;
+                let body = &self.frame.bytes()[at..at + found.len as usize];
+                match into.set(body) {
+                    Ok(()) => {}
+                    Err(Wide) => into.clear(),
+                }
+                Some(Head {
+                    key: found.key,
+                    tag: found.tag,
+                })
+            }
+        }
+    }
+
+    // The head of the next tuple of the page in the frame, which is not moved past.
+    fn probe(&self) -> Option<Head>
+        ensures none { IfNone result (self.now.here ≡ []) }
+        ensures some { IfSome result (λ h. Shows h self.now) }
+    {
+        let mut tuples = self.tuples;
+        match next_in(&mut tuples, self.frame.bytes()) {
+            None => None,
+            Some(found) => Some(Head {
+                key: found.key,
+                tag: found.tag,
+            }),
+        }
+    }
+
+    /// The next tuple, whose body goes into the buffer, or `None` after the last of the stated pages. After `None` and after an error the buffer is as before.
+    /// It reads pages only where no tuple is left of the page in the frame, and no more than the stated pages from one `start` to the next.
+    /// A page that no writer wrote may hold a body above the buffer's limit: in its place the buffer gets no bytes.
+    pub fn next<D: Disk>(&mut self, disk: &mut D, into: &mut Buf) -> Result<Option<Head>, Stop>
+        requires page_len { self.old.page_len ≡ (D.shown disk.old).page_len }
+        requires limit { room_of self.old.page_len ≤ 13 + into.old.limit }
+        ensures none { IfOk result (λ o. IfNone o ((l : List Entry) → ToGive (D.shown disk.old) self.old l → l ≡ [])) }
+        ensures some { IfOk result (λ o. IfSome o (λ h. (l : List Entry) → ToGive (D.shown disk.old) self.old l → Leads (tuple h into.new.bytes) l (ToGive (D.shown disk.new) self.new))) }
+        ensures over { IfOk result (λ o. IfNone o (IsOver self.new)) }
+        ensures front { (self.old.here ≢ []) → IsOkAnd result (λ o. IsSomeAnd o (λ h. self.old.here ≡ tuple h (first_body self.old.here) ∷ self.new.here)) }
+        ensures body { (self.old.here ≢ []) → into.new.bytes ≡ body_within into.old.limit (first_body self.old.here) }
+        ensures still { (self.old.here ≢ []) → self.new.page ≡ self.old.page }
+        ensures untouched { (self.old.here ≢ []) → D.shown disk.new ≡ D.shown disk.old }
+        ensures left { left self.new ≤ left self.old }
+        ensures falls { IfOk result (λ o. OnSome o (left self.new < left self.old)) }
+        ensures kept { OnOk result (Touches NoFile (D.shown disk.old) (D.shown disk.new)) }
+        ensures touches { Touches (λ f. f ≡ self.old.file) (D.shown disk.old) (D.shown disk.new) }
+        ensures only { IfErr result (λ e. e ≡ Stop.Scratch) }
+        ensures rose { OnErr result (Rose (D.shown disk.old).faults (D.shown disk.new).faults) }
+        ensures reads { (D.shown disk.new).reads ≡ bumped_by (self.new.page - self.old.page) (D.shown disk.old).reads }
+        ensures unread { (D.shown disk.new).reads + unread self.new ≤ (D.shown disk.old).reads + unread self.old }
+        ensures writes { (D.shown disk.new).writes ≡ (D.shown disk.old).writes }
+        ensures unused { IfOk result (λ o. IfNone o (into.new ≡ into.old)) }
+        ensures unused_err { OnErr result (into.new ≡ into.old) }
+        ensures within { IfOk result (λ o. OnSome o (IsWithin into.new)) }
+        ensures room { SameRoom into.old into.new }
+        ensures page { self.old.page ≤ self.new.page }
+        ensures last { self.new.page ≤ self.new.pages }
+        ensures file { self.new.file ≡ self.old.file }
+        ensures pages { self.new.pages ≡ self.old.pages }
+        ensures page_len { self.new.page_len ≡ self.old.page_len }
+    {
+        self.settle(disk)?;
+        Ok(self.take_one(into))
+    }
+
+    /// The head that `next` will give, or `None` where that will give `None`. It moves past no tuple.
+    pub fn peek<D: Disk>(&mut self, disk: &mut D) -> Result<Option<Head>, Stop>
+        requires { self.old.page_len ≡ (D.shown disk.old).page_len }
+        ensures to_give { OnOk result ((l : List Entry) → ToGive (D.shown disk.old) self.old l → ToGive (D.shown disk.new) self.new l) }
+        ensures none { IfOk result (λ o. IfNone o ((l : List Entry) → ToGive (D.shown disk.old) self.old l → l ≡ [])) }
+        ensures some { IfOk result (λ o. IfSome o (λ h. (l : List Entry) → ToGive (D.shown disk.old) self.old l → Leads (tuple h (first_body self.new.here)) l (λ _. ⊤))) }
+        ensures over { IfOk result (λ o. IfNone o (IsOver self.new)) }
+        ensures shows { IfOk result (λ o. IfSome o (λ h. Shows h self.new)) }
+        ensures ready { (self.old.here ≢ []) → IsOk result }
+        ensures still { (self.old.here ≢ []) → self.new ≡ self.old }
+        ensures untouched { (self.old.here ≢ []) → D.shown disk.new ≡ D.shown disk.old }
+        ensures left { left self.new ≤ left self.old }
+        ensures kept { OnOk result (Touches NoFile (D.shown disk.old) (D.shown disk.new)) }
+        ensures touches { Touches (λ f. f ≡ self.old.file) (D.shown disk.old) (D.shown disk.new) }
+        ensures only { IfErr result (λ e. e ≡ Stop.Scratch) }
+        ensures rose { OnErr result (Rose (D.shown disk.old).faults (D.shown disk.new).faults) }
+        ensures reads { (D.shown disk.new).reads ≡ bumped_by (self.new.page - self.old.page) (D.shown disk.old).reads }
+        ensures unread { (D.shown disk.new).reads + unread self.new ≤ (D.shown disk.old).reads + unread self.old }
+        ensures writes { (D.shown disk.new).writes ≡ (D.shown disk.old).writes }
+        ensures page { self.old.page ≤ self.new.page }
+        ensures last { self.new.page ≤ self.new.pages }
+        ensures file { self.new.file ≡ self.old.file }
+        ensures pages { self.new.pages ≡ self.old.pages }
+        ensures page_len { self.new.page_len ≡ self.old.page_len }
+    {
+        self.settle(disk)?;
+        Ok(self.probe())
+    }
+
+    /// The body of the next tuple, whose head `peek` has just given. It lies in the reader's frame.
+    pub fn peeked(&self) -> &[u8]
+        requires { self.now.here ≢ [] }
+        ensures { result.now ≡ first_body self.now.here }
+    {
+        let mut tuples = self.tuples;
+        match next_in(&mut tuples, self.frame.bytes()) {
+            None => unreachable!(),
+            Some(found) => {
+                let at = found.at as usize;
+                &self.frame.bytes()[at..at + found.len as usize]
+            }
+        }
+    }
+
+    /// Whether no tuple of the page in the frame is left, as before the first page.
+    pub fn edge(&self) -> bool
+        ensures { IsTrue result ↔ (self.now.here ≡ []) }
+    {
+        self.probe().is_none()
+    }
+
+    /// The frame back. What its bytes are is not said.
+    pub fn close(self) -> Frame
+        ensures { length result ≡ self.page_len }
+    {
+        self.frame
+    }
+}
+
+// The next tuple of the page in a frame, where a page is in it.
+fn next_in(tuples: &mut Option<PageReader>, page: &[u8]) -> Option<Tuple>
+    requires { IsPageLen (length page.now) }
+    ensures none { IfNone result (here_of tuples.old page.now ≡ []) }
+    ensures same { IfNone result (tuples.new ≡ tuples.old) }
+    ensures some { IfSome result (λ t. here_of tuples.old page.now ≡ entry_of t page.now ∷ here_of tuples.new page.now) }
+    ensures within { IfSome result (λ t. t.at + t.len ≤ length page.now) }
+{
+    match tuples {
+        None => None,
+        Some(tuples) => tuples.next(page),
+    }
+}
