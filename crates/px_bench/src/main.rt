@@ -1,24 +1,32 @@
-//! Times libraries of px: pages of tuples, and the parser of graph text.
+//! Times libraries of px: pages of tuples, files of tuples, the parser of graph text, programs and their printing.
 //!
-//!     px_bench pages N    fills N pages of tuples and walks them
-//!     px_bench parse      parses the graph text on standard input
-//!     px_bench            does a little of both
+//!     px_bench pages N            fills N pages of tuples and walks them
+//!     px_bench parse              parses the graph text on standard input
+//!     px_bench streams N FOLDER   writes N tuples to a file of a disk in FOLDER and reads them back
+//!     px_bench rank N             loads N vertices, computes them and stores them, in ten rounds
+//!     px_bench print N            prints N values as ranks and as distances
+//!     px_bench                    does a little of each
 //!
 //! What a job came to goes to standard output, and the seconds that it took to standard error.
-//! Without words nothing is timed.
+//! The file of `streams` stays. Without words nothing is timed, and the file is removed.
 #![tactic(auto)]
 
 mod input;
 mod pages;
 mod parse;
+mod print;
+mod rank;
+mod record;
+mod streams;
 mod tally;
 
 use crate::input::Input;
 use crate::tally::Tally;
 use anyhow::{Result, bail};
 use px_core::MemSource;
-use std::env;
+use px_filedisk::FileDisk;
 use std::time::Instant;
+use std::{env, fs};
 
 /// What the words ask for.
 #[derive(Clone, Copy)]
@@ -29,28 +37,59 @@ enum Job {
     Pages(u64),
     /// The text on standard input.
     Parse,
+    /// So many tuples, in a file of the folder that the last word names.
+    Streams(u64),
+    /// So many vertices.
+    Rank(u64),
+    /// So many values.
+    Print(u64),
 }
 
 const LITTLE_PAGES: u64 = 3;
 
 const LITTLE_TEXT: &[u8; 55] = b"# six vertices\n1 2:3 4\r\n2 1\n\n3\n 4 1:10 2 3:7\n5\t5:0 \n6 1";
 
+const LITTLE_TUPLES: u64 = 20_000;
+
+const LITTLE_FOLDER: &str = "px_bench_streams";
+
+const LITTLE_FILE: &str = "px_bench_streams/f1";
+
+const LITTLE_COUNT: u64 = 100;
+
+fn counted_job(name: &str, count: u64) -> Option<Job> {
+    if name == "pages" {
+        Some(Job::Pages(count))
+    } else if name == "rank" {
+        Some(Job::Rank(count))
+    } else if name == "print" {
+        Some(Job::Print(count))
+    } else {
+        None
+    }
+}
+
 fn job_of(words: &[String]) -> Option<Job> {
     match words {
         [] => Some(Job::Little),
         [name] if name.as_str() == "parse" => Some(Job::Parse),
-        [name, pages] if name.as_str() == "pages" => pages.parse().ok().map(Job::Pages),
+        [name, count] => counted_job(name.as_str(), count.parse().ok()?),
+        [name, count, _] if name.as_str() == "streams" => count.parse().ok().map(Job::Streams),
         _ => None,
     }
 }
 
-fn print_pages(rt: &HostRuntime, tally: Tally) -> Result<()> {
-    println!(rt; "pages: {} tuples, checksum {}", tally.count, tally.sum)?;
+// Prints what a job came to: so many things of this name, and their checksum.
+fn print_tally(rt: &HostRuntime, job: &str, tally: Tally, things: &str) -> Result<()> {
+    println!(rt; "{job}: {} {things}, checksum {}", tally.count, tally.sum)?;
     Ok(())
 }
 
-fn print_parse(rt: &HostRuntime, tally: Tally) -> Result<()> {
-    println!(rt; "parse: {} vertices, checksum {}", tally.count, tally.sum)?;
+fn print_streams(rt: &HostRuntime, (tally, pages): (Tally, u64)) -> Result<()> {
+    println!(rt;
+        "streams: {} tuples on {} pages, checksum {}",
+        tally.count, pages, tally.sum
+    )?;
     Ok(())
 }
 
@@ -60,17 +99,30 @@ fn print_seconds(rt: &HostRuntime, start: Instant) -> Result<()> {
     Ok(())
 }
 
-fn do_little(rt: &HostRuntime) -> Result<()> {
-    let mut source = MemSource::new(rt.alloc(), LITTLE_TEXT, &[])?;
-    print_pages(rt, pages::run(rt.alloc(), LITTLE_PAGES)?)?;
-    print_parse(rt, parse::run(rt.alloc(), &mut source)?)
+fn do_little(rt: HostRuntime) -> Result<()> {
+    let alloc = rt.alloc();
+    let mut source = MemSource::new(alloc, LITTLE_TEXT, &[])?;
+    print_tally(&rt, "pages", pages::run(alloc, LITTLE_PAGES)?, "tuples")?;
+    print_tally(&rt, "parse", parse::run(alloc, &mut source)?, "vertices")?;
+    let mut disk = FileDisk::new(rt, alloc, LITTLE_FOLDER)?;
+    print_streams(&rt, streams::run(alloc, &mut disk, LITTLE_TUPLES)?)?;
+    fs::remove_file(&rt, LITTLE_FILE)?;
+    fs::remove_dir(&rt, LITTLE_FOLDER)?;
+    let records = rank::build(alloc, LITTLE_COUNT)?;
+    print_tally(
+        &rt,
+        "rank",
+        rank::run(alloc, &records, LITTLE_COUNT)?,
+        "vertices",
+    )?;
+    print_tally(&rt, "print", print::run(alloc, LITTLE_COUNT)?, "bytes")
 }
 
 fn time_pages(rt: &HostRuntime, pages: u64) -> Result<()> {
     let start = Instant::now(rt)?;
     let tally = pages::run(rt.alloc(), pages)?;
     print_seconds(rt, start)?;
-    print_pages(rt, tally)
+    print_tally(rt, "pages", tally, "tuples")
 }
 
 fn time_parse(rt: &HostRuntime) -> Result<()> {
@@ -78,7 +130,33 @@ fn time_parse(rt: &HostRuntime) -> Result<()> {
     let start = Instant::now(rt)?;
     let tally = parse::run(rt.alloc(), &mut source)?;
     print_seconds(rt, start)?;
-    print_parse(rt, tally)
+    print_tally(rt, "parse", tally, "vertices")
+}
+
+fn time_streams(rt: HostRuntime, count: u64, folder: Option<&String>) -> Result<()> {
+    let Some(folder) = folder else {
+        bail!("there is no folder");
+    };
+    let mut disk = FileDisk::new(rt, rt.alloc(), folder.as_str())?;
+    let start = Instant::now(&rt)?;
+    let done = streams::run(rt.alloc(), &mut disk, count)?;
+    print_seconds(&rt, start)?;
+    print_streams(&rt, done)
+}
+
+fn time_rank(rt: &HostRuntime, count: u64) -> Result<()> {
+    let records = rank::build(rt.alloc(), count)?;
+    let start = Instant::now(rt)?;
+    let tally = rank::run(rt.alloc(), &records, count)?;
+    print_seconds(rt, start)?;
+    print_tally(rt, "rank", tally, "vertices")
+}
+
+fn time_print(rt: &HostRuntime, count: u64) -> Result<()> {
+    let start = Instant::now(rt)?;
+    let tally = print::run(rt.alloc(), count)?;
+    print_seconds(rt, start)?;
+    print_tally(rt, "print", tally, "bytes")
 }
 
 fn main(rt: HostRuntime) -> Result<()> {
@@ -87,9 +165,14 @@ fn main(rt: HostRuntime) -> Result<()> {
         words.push(word)?;
     }
     match job_of(&words) {
-        Some(Job::Little) => do_little(&rt),
+        Some(Job::Little) => do_little(rt),
         Some(Job::Pages(pages)) => time_pages(&rt, pages),
         Some(Job::Parse) => time_parse(&rt),
-        None => bail!("the words are `pages N` or `parse`"),
+        Some(Job::Streams(count)) => time_streams(rt, count, words.last()),
+        Some(Job::Rank(count)) => time_rank(&rt, count),
+        Some(Job::Print(count)) => time_print(&rt, count),
+        None => bail!(
+            "the words are `pages N`, `parse`, `streams N FOLDER`, `rank N` or `print N`"
+        ),
     }
 }

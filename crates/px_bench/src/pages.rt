@@ -10,8 +10,8 @@ use std::alloc::{AllocError, Global};
 /// The bytes of a page.
 const PAGE: u32 = 262_144;
 
-// The body of a vertex with one edge, of weight 1.
-fn body_with_edge(dst: u64) -> [u8; 21] {
+/// The body of a vertex with one edge, of weight 1.
+pub fn body_with_edge(dst: u64) -> [u8; 21] {
     let mut body = [0; 21];
     body[8] = 1;
     body[9..17].copy_from_slice(&dst.to_be_bytes());

@@ -1,28 +1,20 @@
 // A graph text is parsed, a vertex at a time.
-ghost use Rattle.std.specs.Prelude.{◌-◌, ◌/◌, IsFalse};
-ghost use Rattle.px_record.specs.Held.{IsRoomOf};
+ghost use Rattle.std.specs.Prelude.{IsFalse};
 
+use crate::record::record_of;
 use crate::tally::Tally;
 use anyhow::Result;
 use px_core::Source;
 use px_frames::Frame;
 use px_graph_text::{Parser, TextStop};
 use px_record::VertexBuf;
-use std::alloc::{AllocError, Global};
+use std::alloc::Global;
 
 /// The bytes of a frame.
 const FRAME: u32 = 262_144;
 
 /// The most bytes that a text may have.
 const LIMIT: u64 = 1 << 48;
-
-// A record for one vertex, over a frame of its own.
-fn record_of(alloc: Global, frame_bytes: u32) -> Result<VertexBuf, AllocError>
-    requires { IsRoomOf (frame_bytes / 2 - 16) frame_bytes }
-{
-    let frame = Frame::new(alloc, frame_bytes)?;
-    Ok(VertexBuf::over(frame, frame_bytes / 2 - 16))
-}
 
 // The sum of the vid, the targets and the weights. It wraps.
 fn sum_of(vertex: &VertexBuf) -> u64 {
