@@ -7,7 +7,7 @@ use crate::tally::Tally;
 use anyhow::Result;
 use byteorder::{BigEndian, ByteOrder};
 use px_core::{Disk, Stop};
-use px_frames::{Buf, Frame};
+use px_frames::Frame;
 use px_pages::tags;
 use px_stream::{Reader, Writer};
 use std::alloc::{AllocError, Global};
@@ -44,14 +44,14 @@ fn target_of(body: &[u8]) -> u64 {
 }
 
 // Reads what a reader has left, and sums keys, tags and targets.
-fn read<D: Disk>(reader: &mut Reader, disk: &mut D, into: &mut Buf) -> Result<Tally, Stop>
-    requires page_len { reader.old.page_len ≡ (D.shown disk.old).page_len }
-    requires limit { room_of reader.old.page_len ≤ 13 + into.old.limit }
+fn read<D: Disk>(reader: &mut Reader, disk: &mut D) -> Result<Tally, Stop>
+    requires { reader.old.page_len ≡ (D.shown disk.old).page_len }
 {
     let mut tally = Tally::default();
-    'tuples: while let Some(head) = reader.next(disk, into)? {
+    'tuples: while let Some(head) = reader.peek(disk)? {
         let sum = head.key.wrapping_add(head.tag.into());
-        tally.add(1, sum.wrapping_add(target_of(into.bytes())));
+        tally.add(1, sum.wrapping_add(target_of(reader.peeked())));
+        reader.pass();
     }
     Ok(tally)
 }
@@ -70,7 +70,6 @@ pub fn run<D: Disk>(alloc: Global, disk: &mut D, count: u64) -> Result<(Tally, u
     let pages = write(&mut writer, disk, count)?;
     let mut reader = Reader::new(writer.close(), FILE);
     reader.start(pages);
-    let mut into = Buf::over(frame_of(alloc, PAGE)?, PAGE);
-    let tally = read(&mut reader, disk, &mut into)?;
+    let tally = read(&mut reader, disk)?;
     Ok((tally, pages))
 }

@@ -1,5 +1,5 @@
 // A file of tuples is read.
-ghost use Rattle.std.specs.Prelude.{◌≡◌, ◌≢◌, ◌<◌, ◌≤◌, ◌+◌, ◌-◌, ◌↔◌, [], ◌∷◌, ℕ, List, length, IsTrue, OnOk, OnErr, IfErr, IfSome, IfOk, IfNone, OnSome, IsOk, IsOkAnd, IsSomeAnd, ⊤};
+ghost use Rattle.std.specs.Prelude.{◌≡◌, ◌≢◌, ◌<◌, ◌≤◌, ◌+◌, ◌-◌, ◌↔◌, [], ◌∷◌, ℕ, List, length, drop, IsTrue, OnOk, OnErr, IfErr, IfSome, IfOk, IfNone, OnSome, IsOk, IsOkAnd, IsSomeAnd, ⊤};
 ghost use Rattle.px_core.specs.Counts.{Rose, bumped};
 ghost use Rattle.px_core.specs.Shown.{Shown, Touches, NoFile};
 ghost use Rattle.px_frames.specs.Buffer.{SameRoom, IsWithin};
@@ -266,6 +266,24 @@ impl Reader {
                 let at = found.at as usize;
                 &self.frame.bytes()[at..at + found.len as usize]
             }
+        }
+    }
+
+    /// Moves past the next tuple, whose head `peek` has just given. Its body is not copied.
+    pub fn pass(&mut self)
+        requires { self.old.here ≢ [] }
+        ensures to_give { (s : Shown) (l : List Entry) → ToGive s self.old l → ToGive s self.new (drop 1 l) }
+        ensures here { self.new.here ≡ drop 1 self.old.here }
+        ensures falls { left self.new < left self.old }
+        ensures file { self.new.file ≡ self.old.file }
+        ensures page { self.new.page ≡ self.old.page }
+        ensures pages { self.new.pages ≡ self.old.pages }
+        ensures page_len { self.new.page_len ≡ self.old.page_len }
+    {
+        let passed = next_in(&mut self.tuples, self.frame.bytes());
+        match passed {
+            None => unreachable!(),
+            Some(_) => {}
         }
     }
 
