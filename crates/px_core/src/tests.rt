@@ -23,6 +23,22 @@ fn copy<S: Source, W: Sink>(
     Ok(n)
 }
 
+// In memory both tell, so the sink has grown by what the source has less.
+fn copy_here(source: &mut MemSource, sink: &mut MemSink, buffer: &mut [u8]) -> Result<usize, Failed>
+    ensures rest { IfOk result (λ n. source.new.left ≡ drop n source.old.left) }
+    ensures held { IfOk result (λ n. sink.new.held ≡ sink.old.held ++ take n source.old.left) }
+{
+    copy(source, sink, buffer)
+}
+
+// A sink in memory tells what it holds after a failure too: a prefix more.
+fn write_here(sink: &mut MemSink, bytes: &[u8]) -> Result<(), Failed>
+    ensures ok { OnOk result (sink.new.held ≡ sink.old.held ++ bytes.now) }
+    ensures err { OnErr result ((n : ℕ) × (sink.new.held ≡ sink.old.held ++ take n bytes.now)) }
+{
+    write_all(sink, bytes)
+}
+
 // Whether each call of a disk without pages fails.
 fn refuses_all<D: Disk>(disk: &mut D) -> bool
     requires { (D.shown disk.old).page_len ≡ 0 }
@@ -74,7 +90,7 @@ fn copies_through_the_bounds(rt: HostRuntime) -> Result<(), Fail> {
     let mut sink = MemSink::new(rt.alloc(), 7, &[])?;
     let mut buffer = [0; 3];
     for want in [3, 3, 1, 0] {
-        assert_eq!(rt; copy(&mut source, &mut sink, &mut buffer)?, want);
+        assert_eq!(rt; copy_here(&mut source, &mut sink, &mut buffer)?, want);
     }
     assert_eq!(rt; sink.bytes(), b"abcdefg".as_slice());
     Ok(())
@@ -114,7 +130,7 @@ fn each_write_fails_in_turn(rt: HostRuntime) -> Result<(), Fail> {
 #[test]
 fn a_full_sink_fails_with_a_prefix(rt: HostRuntime) -> Result<(), Fail> {
     let mut sink = MemSink::new(rt.alloc(), 3, &[])?;
-    assert_eq!(rt; write_all(&mut sink, b"abcde"), Err(Failed));
+    assert_eq!(rt; write_here(&mut sink, b"abcde"), Err(Failed));
     assert_eq!(rt; sink.bytes(), b"abc".as_slice());
     assert_eq!(rt; sink.write(&[]), Ok(0));
     Ok(())

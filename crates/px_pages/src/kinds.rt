@@ -17,3 +17,14 @@ pub const LSM_LEAF: u8 = 5;
 
 /// Children of a component of an LSM tree.
 pub const LSM_INNER: u8 = 6;
+
+// The six kinds are the numbers from 1 to 6, in this order.
+const _: () = prove!(
+    0 < STREAM
+        && STREAM < RUN_HEADER
+        && RUN_HEADER < BTREE_LEAF
+        && BTREE_LEAF < BTREE_INNER
+        && BTREE_INNER < LSM_LEAF
+        && LSM_LEAF < LSM_INNER
+        && LSM_INNER == 6
+);

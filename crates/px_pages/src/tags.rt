@@ -17,3 +17,13 @@ pub const LIVE_VID: u8 = 4;
 
 /// A page number in 8 bytes.
 pub const CHILD: u8 = 5;
+
+// The six tags are the numbers from 0 to 5, in this order.
+const _: () = prove!(
+    MESSAGE < VERTEX
+        && VERTEX < REQUEST
+        && REQUEST < TOMBSTONE
+        && TOMBSTONE < LIVE_VID
+        && LIVE_VID < CHILD
+        && CHILD == 5
+);
