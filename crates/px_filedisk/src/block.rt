@@ -1,15 +1,19 @@
-// Where a page stands in its file, and the stamp before it.
-ghost use Rattle.std.specs.Prelude.{◌≡◌, ◌+◌, ◌*◌, ◌^◌, ◌<◌, ◌≤◌, ◌++◌, length, replicate, IsNone, IfSome};
-ghost use Rattle.byteorder.specs.Endian.{big_bytes};
+// The block of a page in its file: a stamp, and then the page.
+ghost use Rattle.std.specs.Prelude.{◌≡◌, ◌≢◌, ◌+◌, ◌*◌, ◌^◌, ◌<◌, ◌≤◌, ℕ, List, length, Some, IsOk, IfOk, IfSome, OnOk};
+ghost use Rattle.std.specs.Option.{option_map};
+ghost use Rattle.px_filedisk.specs.Block.{HasPage, place, stamp, with_page};
 
+use crate::files::Files;
 use byteorder::{BigEndian, ByteOrder};
+use std::io;
+use std::io::ErrorKind;
 
-/// The length of a stamp.
-pub const STAMP: u64 = 16;
+// The length of a stamp.
+const STAMP: u64 = 16;
 
-/// The stamp of a page: the file number, four zero bytes and the page number.
-pub fn stamp_of(number: u32, page: u64) -> [u8; 16]
-    ensures { result ≡ big_bytes 4 number ++ replicate 4 0 ++ big_bytes 8 page }
+// The stamp of a page: the file number, four zero bytes and the page number.
+fn stamp_of(number: u32, page: u64) -> [u8; 16]
+    ensures { result ≡ stamp number page }
 {
     let mut stamp = [0; 16];
     BigEndian::write_u32(&mut stamp, number);
@@ -17,14 +21,43 @@ pub fn stamp_of(number: u32, page: u64) -> [u8; 16]
     stamp
 }
 
-/// Where the block of a page of so many bytes begins, unless it would end past the last offset.
-pub fn place_of(page: u64, page_len: usize) -> Option<u64>
+// Where the block of a page of so many bytes begins, unless it would end past the last offset.
+fn place_of(page: u64, page_len: usize) -> io::Result<u64>
     requires { page_len + 16 < 2 ^ 64 }
-    ensures within { IfSome result (λ at. at + 16 + page_len < 2 ^ 64) }
-    ensures place { IfSome result (λ at. at ≡ page * (page_len + 16)) }
-    ensures none { IsNone result → 2 ^ 64 ≤ (page + 1) * (page_len + 16) }
+    ensures within { IfOk result (λ at. at + 16 + page_len < 2 ^ 64) }
+    ensures place { IfOk result (λ at. at ≡ place page page_len) }
+    ensures ready { (page + 1) * (page_len + 16) < 2 ^ 64 → IsOk result }
 {
     let block = page_len as u64 + STAMP;
-    let end = page.checked_add(1)?.checked_mul(block)?;
-    Some(end - block)
+    let end = page.checked_add(1).and_then(|pages| pages.checked_mul(block));
+    match end {
+        Some(end) => Ok(end - block),
+        None => Err(io::Error::from(ErrorKind::InvalidInput)),
+    }
+}
+
+/// Reads a page. A block that is short or has another page's stamp is an error.
+pub fn read_page<F: Files>(files: &mut F, number: u32, page: u64, into: &mut [u8]) -> io::Result<()>
+    ensures page { OnOk result (IfSome (F.bytes files.old number) (HasPage number page into.new)) }
+    ensures kept { (n : ℕ) → F.bytes files.new n ≡ F.bytes files.old n }
+    ensures ready { F.reads_work files.old → (page + 1) * (length into.old + 16) < 2 ^ 64 → (bytes file : List ℕ) → F.bytes files.old number ≡ Some file → length bytes ≡ length into.old → HasPage number page bytes file → IsOk result }
+{
+    let at = place_of(page, into.len())?;
+    let mut stamp = [0; 16];
+    files.read_at(number, at, &mut stamp)?;
+    if stamp != stamp_of(number, page) {
+        return Err(io::Error::from(ErrorKind::InvalidData));
+    }
+    files.read_at(number, at + STAMP, into)
+}
+
+/// Writes a page. After an error a part of its block may have been written.
+pub fn write_page<F: Files>(files: &mut F, number: u32, page: u64, from: &[u8]) -> io::Result<()>
+    ensures page { OnOk result (F.bytes files.new number ≡ option_map (with_page number page from.now) (F.bytes files.old number)) }
+    ensures others { (n : ℕ) → n ≢ number → F.bytes files.new n ≡ F.bytes files.old n }
+{
+    let at = place_of(page, from.len())?;
+    files.write_at(number, at, &stamp_of(number, page))?;
+    files.write_at(number, at + STAMP, from)?;
+    Ok(())
 }

@@ -1,70 +1,73 @@
 // A disk of real files in a folder, which tells nothing of what they hold.
-ghost use Rattle.std.specs.Prelude.{◌≡◌, ◌≤◌, ◌↔◌, ℕ, [], length, IfOk, IfSome, IsOk, OnErr, OnOk};
+ghost use Rattle.std.specs.Prelude.{◌≡◌, ◌≢◌, ◌<◌, ◌≤◌, ◌↔◌, ◌+◌, ◌*◌, ◌^◌, ℕ, List, [], length, Some, IfOk, IfSome, IsOk, OnErr, OnOk};
 ghost use Rattle.std.specs.Option.{option_map};
 ghost use Rattle.px_core.specs.Counts.{Rose, bumped};
 ghost use Rattle.px_core.specs.Shown.{Gives, HasRoom, Touches, told_if, written};
-ghost use Rattle.px_filedisk.specs.Disk.{shown_of};
+ghost use Rattle.px_filedisk.specs.Block.{HasPage, with_page};
+ghost use Rattle.px_filedisk.specs.Disk.{counts_of, shown_of};
 
+use crate::block::{read_page, write_page};
+use crate::files::Files;
 use crate::folder::Folder;
 use px_core::{Disk, Failed};
 use std::alloc::{AllocError, Global};
 use std::io;
-use std::marker::Model;
 
 /// A disk of real files in a folder: file n is the file `f` followed by n in decimal. Each page stands in a block after a stamp of 16 bytes:
 /// the file number in 4 bytes, four zero bytes and the page number in 8, the numbers with their high byte first.
 /// A file is opened at its first use and stays open. What can't be made, opened, removed, read or written is a fault, for lack of memory too,
 /// and so is a page whose block is short or has another stamp.
 #[derive(Drop)]
-pub struct FileDisk {
-    folder: Folder,
+pub struct FileDisk<F = Folder> {
+    files: F,
     page_len: u32,
     faults: u64,
     reads: u64,
     writes: u64,
 }
 
-impl Model for FileDisk {
-    ghost use Rattle.px_filedisk.specs.Disk.{FileDiskView};
-
-    ghost Value = { FileDiskView };
-
-    ghost view = { λ d. record { page_len = d.page_len; faults = d.faults; reads = d.reads; writes = d.writes } };
-}
-
 impl FileDisk {
     /// A disk whose page length is 0. Nothing is made or opened before `start`.
     pub fn new(rt: HostRuntime, alloc: Global, folder: &str) -> Result<FileDisk, AllocError>
-        ensures { IfOk result (λ d. d ≡ record { page_len = 0; faults = 0; reads = 0; writes = 0 }) }
+        ensures { IfOk result (λ d. counts_of d ≡ record { page_len = 0; faults = 0; reads = 0; writes = 0 }) }
     {
-        let folder = Folder::new(rt, alloc, folder)?;
-        Ok(FileDisk {
-            folder,
+        Ok(FileDisk::over(Folder::new(rt, alloc, folder)?))
+    }
+}
+
+impl<F> FileDisk<F> {
+    // The same over these files.
+    pub(crate) fn over(files: F) -> FileDisk<F>
+        ensures files { result.files ≡ files }
+        ensures counts { counts_of result ≡ record { page_len = 0; faults = 0; reads = 0; writes = 0 } }
+    {
+        FileDisk {
+            files,
             page_len: 0,
             faults: 0,
             reads: 0,
             writes: 0,
-        })
-    }
-
-    // Counts a fault where a call on the folder failed.
-    fn checked(&mut self, done: io::Result<()>) -> Result<(), Failed>
-        ensures same { IsOk result ↔ IsOk done }
-        ensures ok { OnOk result (self.new ≡ self.old) }
-        ensures err { OnErr result (self.new ≡ record self.old { faults = bumped self.old.faults }) }
-        ensures faults { self.old.faults ≤ self.new.faults }
-    {
-        match done {
-            Ok(()) => Ok(()),
-            Err(_) => {
-                self.faults = self.faults.saturating_add(1);
-                Err(Failed)
-            }
         }
     }
 }
 
-impl Disk for FileDisk {
+// Counts a fault where a call on the files failed.
+fn checked(faults: &mut u64, done: io::Result<()>) -> Result<(), Failed>
+    ensures same { IsOk result ↔ IsOk done }
+    ensures ok { OnOk result (faults.new ≡ faults.old) }
+    ensures err { OnErr result (faults.new ≡ bumped faults.old) }
+    ensures faults { faults.old ≤ faults.new }
+{
+    match done {
+        Ok(()) => Ok(()),
+        Err(_) => {
+            *faults = faults.saturating_add(1);
+            Err(Failed)
+        }
+    }
+}
+
+impl<F: Files> Disk for FileDisk<F> {
     ghost shown = { shown_of };
 
     /// Makes the folder where it is missing, and removes each file in it whose name is `f` and digits. After `Failed` the page length is as before.
@@ -77,11 +80,12 @@ impl Disk for FileDisk {
         ensures reads { (shown_of self.new).reads ≡ (shown_of self.old).reads }
         ensures writes { (shown_of self.new).writes ≡ (shown_of self.old).writes }
 
-        ensures after { OnOk result (self.new ≡ record self.old { page_len = frame_bytes }) }
-        ensures counted { OnErr result (self.new ≡ record self.old { faults = bumped self.old.faults }) }
+        ensures after { OnOk result (counts_of self.new ≡ record (counts_of self.old) { page_len = frame_bytes }) }
+        ensures bytes { OnOk result ((n : ℕ) → F.bytes self.new.files n ≡ option_map (λ _. []) (F.bytes self.old.files n)) }
+        ensures counted { OnErr result (counts_of self.new ≡ record (counts_of self.old) { faults = bumped self.old.faults }) }
     {
-        let done = self.folder.empty();
-        self.checked(done)?;
+        let done = self.files.start();
+        checked(&mut self.faults, done)?;
         self.page_len = frame_bytes;
         Ok(())
     }
@@ -97,11 +101,15 @@ impl Disk for FileDisk {
         ensures reads_err { OnErr result ((shown_of self.new).reads ≡ (shown_of self.old).reads) }
         ensures writes { (shown_of self.new).writes ≡ (shown_of self.old).writes }
 
-        ensures after { OnOk result (self.new ≡ record self.old { reads = bumped self.old.reads }) }
-        ensures counted { OnErr result (self.new ≡ record self.old { faults = bumped self.old.faults }) }
+        ensures after { OnOk result (counts_of self.new ≡ record (counts_of self.old) { reads = bumped self.old.reads }) }
+        ensures block { OnOk result (IfSome (F.bytes self.old.files file) (HasPage file page into.new)) }
+        ensures bytes { (n : ℕ) → F.bytes self.new.files n ≡ F.bytes self.old.files n }
+        ensures ready { F.reads_work self.old.files → (page + 1) * (length into.old + 16) < 2 ^ 64 → (page_bytes bytes : List ℕ) → F.bytes self.old.files file ≡ Some bytes
+            → length page_bytes ≡ length into.old → HasPage file page page_bytes bytes → IsOk result }
+        ensures counted { OnErr result (counts_of self.new ≡ record (counts_of self.old) { faults = bumped self.old.faults }) }
     {
-        let done = self.folder.read(file, page, into);
-        self.checked(done)?;
+        let done = read_page(&mut self.files, file, page, into);
+        checked(&mut self.faults, done)?;
         self.reads = self.reads.saturating_add(1);
         Ok(())
     }
@@ -116,11 +124,13 @@ impl Disk for FileDisk {
         ensures writes { OnOk result ((shown_of self.new).writes ≡ bumped (shown_of self.old).writes) }
         ensures writes_err { OnErr result ((shown_of self.new).writes ≡ (shown_of self.old).writes) }
 
-        ensures after { OnOk result (self.new ≡ record self.old { writes = bumped self.old.writes }) }
-        ensures counted { OnErr result (self.new ≡ record self.old { faults = bumped self.old.faults }) }
+        ensures after { OnOk result (counts_of self.new ≡ record (counts_of self.old) { writes = bumped self.old.writes }) }
+        ensures block { OnOk result (F.bytes self.new.files file ≡ option_map (with_page file page from.now) (F.bytes self.old.files file)) }
+        ensures others { (n : ℕ) → n ≢ file → F.bytes self.new.files n ≡ F.bytes self.old.files n }
+        ensures counted { OnErr result (counts_of self.new ≡ record (counts_of self.old) { faults = bumped self.old.faults }) }
     {
-        let done = self.folder.write(file, page, from);
-        self.checked(done)?;
+        let done = write_page(&mut self.files, file, page, from);
+        checked(&mut self.faults, done)?;
         self.writes = self.writes.saturating_add(1);
         Ok(())
     }
@@ -132,11 +142,13 @@ impl Disk for FileDisk {
         ensures reads { (shown_of self.new).reads ≡ (shown_of self.old).reads }
         ensures writes { (shown_of self.new).writes ≡ (shown_of self.old).writes }
 
-        ensures after { OnOk result (self.new ≡ self.old) }
-        ensures counted { OnErr result (self.new ≡ record self.old { faults = bumped self.old.faults }) }
+        ensures after { OnOk result (counts_of self.new ≡ counts_of self.old) }
+        ensures cleared { OnOk result (F.bytes self.new.files file ≡ option_map (λ _. []) (F.bytes self.old.files file)) }
+        ensures others { (n : ℕ) → n ≢ file → F.bytes self.new.files n ≡ F.bytes self.old.files n }
+        ensures counted { OnErr result (counts_of self.new ≡ record (counts_of self.old) { faults = bumped self.old.faults }) }
     {
-        let done = self.folder.clear(file);
-        self.checked(done)
+        let done = self.files.clear(file);
+        checked(&mut self.faults, done)
     }
 
     fn reads(&self) -> u64

@@ -1,8 +1,8 @@
 // A folder of page files, of which each is opened at its first use.
-ghost use Rattle.std.specs.Prelude.{◌↔◌, IsTrue};
+ghost use Rattle.std.specs.Prelude.{◌↔◌, IsTrue, None};
 ghost use Rattle.px_filedisk.specs.Names.{IsPageFile};
 
-use crate::block::{STAMP, place_of, stamp_of};
+use crate::files::Files;
 use std::alloc::{AllocError, Global};
 use std::collections::BTreeMap;
 use std::collections::btree_map::Entry;
@@ -55,8 +55,25 @@ impl Folder {
         })
     }
 
+    // A page file. It is emptied at its first use, so that nothing is read that an earlier run left.
+    fn file(&mut self, number: u32) -> io::Result<&File> {
+        match self.open.entry(number)? {
+            Entry::Occupied(entry) => Ok(entry.into_mut()),
+            Entry::Vacant(entry) => {
+                let file = open_empty(&self.runtime, self.alloc, self.path.as_str(), number)?;
+                Ok(entry.insert(file))
+            }
+        }
+    }
+}
+
+impl Files for Folder {
+    ghost bytes = { λ _ _. None };
+
+    ghost reads_work = { λ _. ⊥ };
+
     /// Makes the folder where it is missing, and removes the page files that an earlier run left.
-    pub fn empty(&mut self) -> io::Result<()> {
+    fn start(&mut self) -> io::Result<()> {
         self.open.clear();
         let path = self.path.as_str();
         fs::create_dir_all(&self.runtime, path)?;
@@ -74,44 +91,15 @@ impl Folder {
         Ok(())
     }
 
-    // A page file. It is emptied at its first use, so that nothing is read that an earlier run left.
-    fn file(&mut self, number: u32) -> io::Result<&File> {
-        match self.open.entry(number)? {
-            Entry::Occupied(entry) => Ok(entry.into_mut()),
-            Entry::Vacant(entry) => {
-                let file = open_empty(&self.runtime, self.alloc, self.path.as_str(), number)?;
-                Ok(entry.insert(file))
-            }
-        }
+    fn read_at(&mut self, number: u32, at: u64, into: &mut [u8]) -> io::Result<()> {
+        self.file(number)?.read_exact_at(into, at)
     }
 
-    /// Reads a page. A block that is short or has another page's stamp is an error.
-    pub fn read(&mut self, number: u32, page: u64, into: &mut [u8]) -> io::Result<()> {
-        let Some(at) = place_of(page, into.len()) else {
-            return Err(io::Error::from(ErrorKind::InvalidInput));
-        };
-        let file = self.file(number)?;
-        let mut stamp = [0; 16];
-        file.read_exact_at(&mut stamp, at)?;
-        file.read_exact_at(into, at + STAMP)?;
-        if stamp != stamp_of(number, page) {
-            return Err(io::Error::from(ErrorKind::InvalidData));
-        }
-        Ok(())
+    fn write_at(&mut self, number: u32, at: u64, from: &[u8]) -> io::Result<()> {
+        self.file(number)?.write_all_at(from, at)
     }
 
-    /// Writes a page. After an error a part of its block may have been written.
-    pub fn write(&mut self, number: u32, page: u64, from: &[u8]) -> io::Result<()> {
-        let Some(at) = place_of(page, from.len()) else {
-            return Err(io::Error::from(ErrorKind::InvalidInput));
-        };
-        let file = self.file(number)?;
-        file.write_all_at(&stamp_of(number, page), at)?;
-        file.write_all_at(from, at + STAMP)
-    }
-
-    /// Takes the pages of a file away.
-    pub fn clear(&mut self, number: u32) -> io::Result<()> {
+    fn clear(&mut self, number: u32) -> io::Result<()> {
         self.file(number)?.set_len(0)
     }
 }

@@ -3,6 +3,7 @@
 
 mod block;
 mod disk;
+mod files;
 mod folder;
 
 pub use disk::FileDisk;

@@ -83,3 +83,5 @@ fn a_folder_below_a_file_fails(rt: HostRuntime) -> Result<(), Fail> {
     fs::remove_file(&rt, "px_file")?;
     Ok(())
 }
+
+mod kept;

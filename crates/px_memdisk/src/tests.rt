@@ -1,5 +1,6 @@
 // What no clause says: that the calls can answer Ok, and the trait used through its bound.
-ghost use Rattle.std.specs.Prelude.{◌≡◌, true, length, IfOk, OnOk};
+ghost use Rattle.std.specs.Prelude.{◌≡◌, [], ◌∷◌, true, length, IfOk, OnOk};
+ghost use Rattle.px_memdisk.specs.Files.{pages_in};
 
 use crate::MemDisk;
 use px_core::{Disk, Failed};
@@ -31,10 +32,23 @@ fn write_and_read_here(disk: &mut MemDisk, from: &[u8; 4]) -> Result<[u8; 4], Fa
     Ok(bytes)
 }
 
+// Two pages are added, one is replaced, and one past the end is none: what the file then holds is these two.
+fn put_two(disk: &mut MemDisk) -> Result<(), Failed>
+    ensures file { OnOk result (pages_in disk.new.files 7 ≡ (65 ∷ 66 ∷ []) ∷ (99 ∷ 100 ∷ []) ∷ []) }
+    ensures beside { OnOk result (pages_in disk.new.files 8 ≡ []) }
+{
+    disk.start(2)?;
+    disk.write(7, 0, b"ab")?;
+    disk.write(7, 1, b"cd")?;
+    disk.write(7, 0, b"AB")?;
+    disk.write(7, 3, b"??")
+}
+
 #[test]
 fn a_page_comes_back(rt: HostRuntime) -> Result<(), Fail> {
     let mut disk = MemDisk::new(rt.alloc(), &[])?;
     assert_eq!(rt; write_and_read_here(&mut disk, b"abcd"), Ok(*b"abcd"));
+    assert_eq!(rt; put_two(&mut disk), Ok(()));
     Ok(())
 }
 
