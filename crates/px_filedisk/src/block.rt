@@ -29,7 +29,9 @@ fn place_of(page: u64, page_len: usize) -> io::Result<u64>
     ensures ready { (page + 1) * (page_len + 16) < 2 ^ 64 → IsOk result }
 {
     let block = page_len as u64 + STAMP;
-    let end = page.checked_add(1).and_then(|pages| pages.checked_mul(block));
+    let end = page
+        .checked_add(1)
+        .and_then(|pages| pages.checked_mul(block));
     match end {
         Some(end) => Ok(end - block),
         None => Err(io::Error::from(ErrorKind::InvalidInput)),

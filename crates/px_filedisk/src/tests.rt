@@ -69,6 +69,13 @@ fn a_start_removes_what_was_left(rt: HostRuntime) -> Result<(), Fail> {
     disk.start(8)?;
     assert!(rt; !fs::exists(&rt, "px_left/f300")?);
     assert!(rt; fs::exists(&rt, "px_left/f7.txt")?);
+    // A file that the listing missed is emptied at its first use.
+    let block = b"\0\0\0\x07\0\0\0\0\0\0\0\0\0\0\0\0page one";
+    fs::write(&rt, "px_left/f7", block)?;
+    assert_eq!(rt; page_of(&mut disk, 7, 0), Err(Failed));
+    // So is a file that this disk has written.
+    disk.write(7, 0, b"page one")?;
+    disk.start(8)?;
     assert_eq!(rt; page_of(&mut disk, 7, 0), Err(Failed));
     fs::remove_dir_all(&rt, "px_left")?;
     Ok(())

@@ -96,7 +96,8 @@ fn write_and_read<F: Files>(
 // The same through the disk.
 fn comes_back(disk: &mut FileDisk<Kept>, from: &[u8; 8]) -> Result<[u8; 8], Failed>
     requires { disk.old.page_len ≡ 8 }
-    ensures { IfOk result (λ bytes. bytes ≡ from.now) }
+    ensures same { IfOk result (λ bytes. bytes ≡ from.now) }
+    ensures page_len { disk.new.page_len ≡ 8 }
 {
     disk.write(300, 5, from)?;
     let mut bytes = [0; 8];
