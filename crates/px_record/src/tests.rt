@@ -1,3 +1,5 @@
+ghost use Rattle.std.specs.Prelude.{◌≡◌, [], ◌∷◌, true, length};
+
 use crate::VertexBuf;
 use px_frames::{Frame, Wide};
 use std::test::Fail;
@@ -7,6 +9,23 @@ const EXAMPLE: [u8; 21] = [
     0, 0, 0, 0, 0, 0, 0, 0, 1, 0, 0, 0, 0, 0, 0, 0, 2, 0, 0, 0, 1,
 ];
 
+// What calls in a row leave in a frame of 256 bytes, as actual lists.
+fn two_edges(frame: Frame) -> VertexBuf
+    requires { length frame ≡ 256 }
+    ensures vid { result.vid ≡ 1 }
+    ensures halt { result.vertex.halt ≡ true }
+    ensures value { result.vertex.value ≡ 97 ∷ [] }
+    ensures edges { result.vertex.edges ≡ (2, 1) ∷ (3, 40) ∷ [] }
+{
+    let mut vertex = VertexBuf::over(frame, 112);
+    vertex.reset(1);
+    vertex.push_edge(2, 1).unwrap();
+    vertex.push_edge(3, 40).unwrap();
+    vertex.set_value(b"a").unwrap();
+    vertex.set_halt(true);
+    vertex
+}
+
 #[test]
 fn writes_the_example(rt: HostRuntime) -> Result<(), Fail> {
     let mut vertex = VertexBuf::over(Frame::new(rt.alloc(), 256)?, 112);
@@ -14,6 +33,14 @@ fn writes_the_example(rt: HostRuntime) -> Result<(), Fail> {
     assert_eq!(rt; vertex.push_edge(2, 1), Ok(()));
     assert_eq!(rt; vertex.body(), EXAMPLE.as_slice());
     let _frame = vertex.close();
+    Ok(())
+}
+
+#[test]
+fn edges_stand_in_order(rt: HostRuntime) -> Result<(), Fail> {
+    let vertex = two_edges(Frame::new(rt.alloc(), 256)?);
+    let want = b"\x01\0\0\0\x01\0\0\0\x02a\0\0\0\0\0\0\0\x02\0\0\0\x01\0\0\0\0\0\0\0\x03\0\0\0\x28";
+    assert_eq!(rt; vertex.body(), want.as_slice());
     Ok(())
 }
 
