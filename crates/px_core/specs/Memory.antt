@@ -1,6 +1,13 @@
--- What a source and a sink in memory hold, and which of their calls fail.
+-- What a source and a sink in memory hold, and which calls of a device in memory fail.
 use Rattle.std.specs.Prelude.{◌≡◌, ℕ, List, Contains}
 use Rattle.px_core.specs.Counts.{bumped}
+
+pub record ScriptView : Type 0 where
+  -- the numbers of the calls that fail, from 1
+  pub fails : List ℕ
+  -- the calls, and those that failed
+  pub calls : ℕ
+  pub faults : ℕ
 
 pub record SourceView : Type 0 where
   -- the bytes left

@@ -8,7 +8,7 @@ use crate::Failed;
 
 /// Files of pages, by number. A file that was never written is empty, and no file has more than 2^40 pages.
 /// A disk may tell what it holds or tell nothing: what is said of pages here holds where it tells.
-/// `Failed` is answered only where the count of faults rose. After it nothing is told of the file that the call names,
+/// `Failed` is answered only where the count of faults rose, and `Ok` only where it did not: a disk tries no call again. After `Failed` nothing is told of the file that the call names,
 /// until a `clear` of it or a `start` answers Ok, and every other file is as before.
 pub trait Disk: Drop {
     /// What the disk shows.
@@ -22,6 +22,7 @@ pub trait Disk: Drop {
         ensures tells { (shown self.new).tells ≡ (shown self.old).tells }
         ensures faults { (shown self.old).faults ≤ (shown self.new).faults }
         ensures failed { OnErr result (Rose (shown self.old).faults (shown self.new).faults) }
+        ensures no_fault { OnOk result ((shown self.new).faults ≡ (shown self.old).faults) }
         ensures reads { (shown self.new).reads ≡ (shown self.old).reads }
         ensures writes { (shown self.new).writes ≡ (shown self.old).writes };
 
@@ -33,6 +34,7 @@ pub trait Disk: Drop {
         ensures same { OnOk result ((shown self.new).files file ≡ (shown self.old).files file) }
         ensures touches { Touches (λ f. f ≡ file) (shown self.old) (shown self.new) }
         ensures failed { OnErr result (Rose (shown self.old).faults (shown self.new).faults) }
+        ensures no_fault { OnOk result ((shown self.new).faults ≡ (shown self.old).faults) }
         ensures reads { OnOk result ((shown self.new).reads ≡ bumped (shown self.old).reads) }
         ensures reads_err { OnErr result ((shown self.new).reads ≡ (shown self.old).reads) }
         ensures writes { (shown self.new).writes ≡ (shown self.old).writes };
@@ -45,6 +47,7 @@ pub trait Disk: Drop {
         ensures limit { OnOk result (IfSome ((shown self.old).files file) (HasRoom page)) }
         ensures touches { Touches (λ f. f ≡ file) (shown self.old) (shown self.new) }
         ensures failed { OnErr result (Rose (shown self.old).faults (shown self.new).faults) }
+        ensures no_fault { OnOk result ((shown self.new).faults ≡ (shown self.old).faults) }
         ensures reads { (shown self.new).reads ≡ (shown self.old).reads }
         ensures writes { OnOk result ((shown self.new).writes ≡ bumped (shown self.old).writes) }
         ensures writes_err { OnErr result ((shown self.new).writes ≡ (shown self.old).writes) };
@@ -54,6 +57,7 @@ pub trait Disk: Drop {
         ensures empty { OnOk result ((shown self.new).files file ≡ told_if (shown self.new).tells []) }
         ensures touches { Touches (λ f. f ≡ file) (shown self.old) (shown self.new) }
         ensures failed { OnErr result (Rose (shown self.old).faults (shown self.new).faults) }
+        ensures no_fault { OnOk result ((shown self.new).faults ≡ (shown self.old).faults) }
         ensures reads { (shown self.new).reads ≡ (shown self.old).reads }
         ensures writes { (shown self.new).writes ≡ (shown self.old).writes };
 

@@ -14,6 +14,7 @@ mod vid;
 pub use disk::Disk;
 pub use memory::{MemSink, MemSource};
 pub use null::NullDisk;
+pub use script::Script;
 pub use sink::{Sink, write_all};
 pub use source::Source;
 pub use stop::{Failed, Stop};

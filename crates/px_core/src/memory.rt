@@ -23,7 +23,7 @@ impl Model for MemSource {
 
     ghost Value = { SourceView };
 
-    ghost view = { λ s. record { left = drop s.next s.bytes.items; fails = s.script.fails.items; calls = s.script.calls; faults = s.script.faults } };
+    ghost view = { λ s. record { left = drop s.next s.bytes.items; fails = s.script.fails; calls = s.script.calls; faults = s.script.faults } };
 
     ghost invariant = { λ s. s.next ≤ vec_len s.bytes };
 }
@@ -87,7 +87,7 @@ impl Model for MemSink {
 
     ghost Value = { SinkView };
 
-    ghost view = { λ s. record { held = s.held.items; most = s.most; fails = s.script.fails.items; calls = s.script.calls; faults = s.script.faults } };
+    ghost view = { λ s. record { held = s.held.items; most = s.most; fails = s.script.fails; calls = s.script.calls; faults = s.script.faults } };
 
     ghost invariant = { λ s. (vec_len s.held ≤ s.most) × (s.most ≤ vec_capacity s.held) };
 }

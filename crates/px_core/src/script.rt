@@ -1,24 +1,32 @@
 // Which calls of an object fail, by their numbers.
-ghost use Rattle.std.specs.Prelude.{◌≡◌, ◌↔◌, IsErr, IfOk, OnOk, OnErr};
+ghost use Rattle.std.specs.Prelude.{◌≡◌, ◌≤◌, ◌↔◌, IsErr, IfOk, OnOk, OnErr};
 ghost use Rattle.px_core.specs.Counts.{bumped};
 ghost use Rattle.px_core.specs.Memory.{NextFails};
 
 use crate::Failed;
 use std::alloc::{AllocError, Global};
+use std::marker::Model;
 
-/// The calls that are to fail, numbered from 1, with the counts of calls and of faults.
+/// For a device in memory: which of its calls are to fail, numbered from 1, with its counts of calls and of faults. A count stands still at `u64::MAX`.
 #[derive(Drop)]
 pub struct Script {
-    pub fails: Vec<u64>,
-    pub calls: u64,
-    pub faults: u64,
+    fails: Vec<u64>,
+    calls: u64,
+    faults: u64,
+}
+
+impl Model for Script {
+    ghost use Rattle.px_core.specs.Memory.{ScriptView};
+
+    ghost Value = { ScriptView };
+
+    ghost view = { λ s. record { fails = s.fails.items; calls = s.calls; faults = s.faults } };
 }
 
 impl Script {
+    /// No call is counted yet. Only memory can be short.
     pub fn new(alloc: Global, fails: &[u64]) -> Result<Script, AllocError>
-        ensures fails { IfOk result (λ s. s.fails.items ≡ fails.now) }
-        ensures calls { IfOk result (λ s. s.calls ≡ 0) }
-        ensures faults { IfOk result (λ s. s.faults ≡ 0) }
+        ensures { IfOk result (λ s. s ≡ record { fails = fails.now; calls = 0; faults = 0 }) }
     {
         let fails = fails.to_vec(alloc)?;
         Ok(Script {
@@ -30,9 +38,10 @@ impl Script {
 
     /// Counts a call, which fails where it is listed.
     pub fn call(&mut self) -> Result<(), Failed>
-        ensures listed { IsErr result ↔ NextFails self.old.fails.items self.old.calls }
+        ensures listed { IsErr result ↔ NextFails self.old.fails self.old.calls }
         ensures ok { OnOk result (self.new ≡ record self.old { calls = bumped self.old.calls }) }
         ensures err { OnErr result (self.new ≡ record self.old { calls = bumped self.old.calls; faults = bumped self.old.faults }) }
+        ensures faults { self.old.faults ≤ self.new.faults }
     {
         self.calls = self.calls.saturating_add(1);
         if self.fails.contains(&self.calls) {
@@ -43,7 +52,8 @@ impl Script {
 
     /// Counts a fault.
     pub fn fault(&mut self) -> Failed
-        ensures { self.new ≡ record self.old { faults = bumped self.old.faults } }
+        ensures counted { self.new ≡ record self.old { faults = bumped self.old.faults } }
+        ensures faults { self.old.faults ≤ self.new.faults }
     {
         self.faults = self.faults.saturating_add(1);
         Failed

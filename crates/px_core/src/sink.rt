@@ -9,7 +9,7 @@ pub trait Sink: Drop {
     /// It holds these bytes. A sink that does not tell what it holds stands in this relation to no list.
     ghost holds: { Self → List ℕ → Type 0 };
 
-    /// How often it has failed.
+    /// How often it has failed: a call that answers Ok adds nothing.
     ghost faults: { Self → ℕ };
 
     /// Appends some of the first bytes, and answers how many: at least one, unless `from` is empty.
@@ -19,14 +19,16 @@ pub trait Sink: Drop {
         ensures ok { IfOk result (λ n. (h : List ℕ) → holds self.old h → holds self.new (h ++ take n from.now)) }
         ensures err { OnErr result ((h : List ℕ) → holds self.old h → holds self.new h) }
         ensures cause { OnErr result (Rose (faults self.old) (faults self.new)) }
+        ensures no_fault { OnOk result (faults self.new ≡ faults self.old) }
         ensures faults { faults self.old ≤ faults self.new };
 }
 
-/// Writes all the bytes, by as many calls as it takes. After a failure a prefix of them was written.
+/// Writes all the bytes, by as many calls as it takes. It ends at the first failure: then a prefix of them was written.
 pub fn write_all<W: Sink>(sink: &mut W, bytes: &[u8]) -> Result<(), Failed>
     ensures ok { OnOk result ((h : List ℕ) → W.holds sink.old h → W.holds sink.new (h ++ bytes.now)) }
     ensures err { OnErr result ((h : List ℕ) → W.holds sink.old h → (n : ℕ) × W.holds sink.new (h ++ take n bytes.now)) }
     ensures cause { OnErr result (Rose (W.faults sink.old) (W.faults sink.new)) }
+    ensures no_fault { OnOk result (W.faults sink.new ≡ W.faults sink.old) }
     ensures faults { W.faults sink.old ≤ W.faults sink.new }
 {
     let mut done = 0;

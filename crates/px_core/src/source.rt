@@ -1,5 +1,5 @@
 // Where bytes come from.
-ghost use Rattle.std.specs.Prelude.{◌≡◌, ◌≤◌, ◌<◌, ℕ, List, [], drop, length, IfOk, OnErr};
+ghost use Rattle.std.specs.Prelude.{◌≡◌, ◌≤◌, ◌<◌, ℕ, List, [], drop, length, IfOk, OnOk, OnErr};
 ghost use Rattle.px_core.specs.Counts.{Rose};
 ghost use Rattle.px_core.specs.Moved.{BeginsWith};
 
@@ -10,7 +10,7 @@ pub trait Source: Drop {
     /// These bytes are left. A source that does not tell what it has stands in this relation to no list.
     ghost left: { Self → List ℕ → Type 0 };
 
-    /// How often it has failed.
+    /// How often it has failed: a call that answers Ok adds nothing.
     ghost faults: { Self → ℕ };
 
     /// Moves some of the bytes left into the front of `into`, and answers how many. 0 is the end of input, unless `into` is empty.
@@ -21,5 +21,6 @@ pub trait Source: Drop {
         ensures end { 0 < length into.new → IfOk result (λ n. n ≡ 0 → (l : List ℕ) → left self.old l → l ≡ []) }
         ensures err { OnErr result ((l : List ℕ) → left self.old l → left self.new l) }
         ensures cause { OnErr result (Rose (faults self.old) (faults self.new)) }
+        ensures no_fault { OnOk result (faults self.new ≡ faults self.old) }
         ensures faults { faults self.old ≤ faults self.new };
 }

@@ -33,6 +33,7 @@ pub trait Outbox: Drop {
         ensures beyond { IsTrue ((made_for self.old).message.valid payload.now) → result ≡ Err Stop.Beyond
             → (p : Posted) → took self.old p → IsBeyond (made_for self.old) (sent to payload.now p) }
         ensures scratch { result ≡ Err Stop.Scratch → Rose (faults self.old) (faults self.new) }
+        ensures no_fault { result ≢ Err Stop.Scratch → faults self.new ≡ faults self.old }
         ensures no_graph { result ≢ Err Stop.Graph }
 
         ensures faults { faults self.old ≤ faults self.new }
@@ -50,6 +51,7 @@ pub trait Outbox: Drop {
         ensures beyond { IsTrue ((made_for self.old).verdict.valid verdict.now) → result ≡ Err Stop.Beyond
             → (p : Posted) → took self.old p → IsBeyond (made_for self.old) (requested vid verdict.now p) }
         ensures scratch { result ≡ Err Stop.Scratch → Rose (faults self.old) (faults self.new) }
+        ensures no_fault { result ≢ Err Stop.Scratch → faults self.new ≡ faults self.old }
         ensures no_graph { result ≢ Err Stop.Graph }
 
         ensures faults { faults self.old ≤ faults self.new }

@@ -79,6 +79,7 @@ pub trait Program: Drop {
             ⊎ ((p : Posted) → O.took out.old p
             → (made : Posted) × IsPartOf (answer (meaning self.now) at.now v.old (option_copied msg.entry)) p made × IsBeyond (O.made_for out.old) made) }
         ensures scratch { result ≡ Err Stop.Scratch → Rose (O.faults out.old) (O.faults out.new) }
+        ensures no_fault { result ≢ Err Stop.Scratch → O.faults out.new ≡ O.faults out.old }
         ensures no_graph { result ≢ Err Stop.Graph }
 
         ensures record_stays { SameRecord v.old v.new }
@@ -109,6 +110,7 @@ pub trait Program: Drop {
         ensures ok { OnOk result ((h : List ℕ) → W.holds sink.old h → W.holds sink.new (h ++ (meaning self.now).value_text v.now.vertex)) }
         ensures err { OnErr result ((h : List ℕ) → W.holds sink.old h → (n : ℕ) × W.holds sink.new (h ++ take n ((meaning self.now).value_text v.now.vertex))) }
         ensures cause { OnErr result (Rose (W.faults sink.old) (W.faults sink.new)) }
+        ensures no_fault { OnOk result (W.faults sink.new ≡ W.faults sink.old) }
         ensures faults { W.faults sink.old ≤ W.faults sink.new };
 
     ghost laws: { (p : Self) → ProgramLaws (meaning p) };

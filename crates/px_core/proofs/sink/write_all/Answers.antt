@@ -1,4 +1,4 @@
-use Rattle.std.proofs.Common.{rules, arith, List, ℕ, ◌++◌, ◌-◌, ◌≡◌, take, drop, length, sym, ◌∙◌, ap, subst, append_assoc, length-drop}
+use Rattle.std.proofs.Common.{arith, List, ℕ, ◌++◌, ◌-◌, ◌≡◌, take, drop, length, sym, ◌∙◌, ap, subst, append_assoc, length-drop}
 use Rattle.std.proofs.Math.Seq.{take-add, take-length}
 use Rattle.px_core.proofs.sink.write_all.Goals as goal
 
@@ -14,5 +14,5 @@ loop-done-preserved g c =
     record {
       within = omega (arith, c.in_ok-done.ensures.count, length-drop d bs);
       holds = λ h was. subst (g.W.Sink.holds c.write.new.self) (append_assoc h _ _ ∙ ap (λ (l : List ℕ). h ++ l) (ap (λ (r : List ℕ). take d bs ++ take n r) (rest_is d bs) ∙ sym (take-add d n bs))) (c.in_ok-done.ensures.ok _ (c.loop-done.invariant.holds h was));
-      faults = search rules;
+      no_fault = c.in_ok-done.ensures.no_fault ∙ c.loop-done.invariant.no_fault;
     }
