@@ -1,10 +1,11 @@
 -- A caller that collects the vids of a text.
-use Rattle.std.proofs.Common.{◌≡◌, ℕ, List, [], ◌∷◌, ◌++◌, Option, None, Result, Ok, Err, sym, ◌∙◌, ap, subst, append-nil, append_assoc}
+use Rattle.std.proofs.Common.{◌≡◌, ◌≢◌, ℕ, List, [], ◌∷◌, ◌++◌, Option, None, Result, Ok, Err, sym, ◌∙◌, ap, refl, subst, append-nil, append_assoc}
 use Rattle.std.specs.Prelude.{IfOk, IfErr, OnOk}
 use Rattle.px_meaning.specs.Graph.{Vertex, vids}
 use Rattle.px_meaning.specs.GraphText.{Offence}
 use Rattle.px_record.specs.Held.{HeldVertex}
 use Rattle.px_graph_text.specs.declared.refusal.TextStop.{TextStop}
+use Rattle.px_graph_text.specs.declared.refusal.TextStop.TheVariants.{Source, Bad}
 use Rattle.px_graph_text.specs.Reading.{ParserView, ToGive, Begins, IsOver, IsBad}
 
 -- these vids were found since the beginning, and the others are still to be given
@@ -28,12 +29,21 @@ collects_more Left New room was old new before found more held vs o same is give
       all = ap (λ (l : List ℕ). l ++ vids b.others) is ∙ append_assoc found (held.vid ∷ []) (vids b.others) ∙ ap (λ (ws : List (ℕ × Vertex)). found ++ vids ws) (sym b.is) ∙ h.all;
     }
 
-pub collected : (Left New : List ℕ → Type 0) (room was : ℕ) (old : ParserView) (before found : List ℕ) (vs : List (ℕ × Vertex)) (o : Option Offence) → was ≡ room
-    → ((bytes : List ℕ) (ws : List (ℕ × Vertex)) (p : Option Offence) → Left bytes → ToGive was old bytes ws p → IsOver New ws p)
+-- where no others are to be given
+pub collected : (Left : List ℕ → Type 0) (room was : ℕ) (old : ParserView) (before found : List ℕ) (vs : List (ℕ × Vertex)) (o : Option Offence) → was ≡ room
+    → ((bytes : List ℕ) (ws : List (ℕ × Vertex)) (p : Option Offence) → Left bytes → ToGive was old bytes ws p → ws ≡ [])
     → Collects Left room old before found vs o → found ≡ before ++ vids vs
-collected Left New room was old before found vs o same over h =
-    let e = over h.bytes h.others o h.are_left (subst (λ (r : ℕ). ToGive r old h.bytes h.others o) (sym same) h.to_give) in
-    sym (append-nil found) ∙ ap (λ (ws : List (ℕ × Vertex)). found ++ vids ws) (sym e.given) ∙ h.all
+collected Left room was old before found vs o same none h =
+    let e = none h.bytes h.others o h.are_left (subst (λ (r : ℕ). ToGive r old h.bytes h.others o) (sym same) h.to_give) in
+    sym (append-nil found) ∙ ap (λ (ws : List (ℕ × Vertex)). found ++ vids ws) (sym e) ∙ h.all
+
+pub bad_given : (stop : TextStop) (vs : List (ℕ × Vertex)) (o : Option Offence) → stop ≢ Source → IsBad stop vs o → vs ≡ []
+bad_given Source vs o not bad = absurd (not refl)
+bad_given (Bad line kind) vs o not bad = bad.given
+
+bad_so : (stop : TextStop) (vs : List (ℕ × Vertex)) (o : Option Offence) → IsBad stop vs o → IsBad stop [] o
+bad_so Source vs o bad = tt
+bad_so (Bad line kind) vs o bad = record { given = refl; at = bad.at }
 
 pub collected_good : (Left New : List ℕ → Type 0) (room was : ℕ) (old : ParserView) (before found : List ℕ) (vs : List (ℕ × Vertex)) (o : Option Offence) → was ≡ room
     → ((bytes : List ℕ) (ws : List (ℕ × Vertex)) (p : Option Offence) → Left bytes → ToGive was old bytes ws p → IsOver New ws p)
@@ -41,11 +51,15 @@ pub collected_good : (Left New : List ℕ → Type 0) (room was : ℕ) (old : Pa
 collected_good Left New room was old before found vs o same over h = (over h.bytes h.others o h.are_left (subst (λ (r : ℕ). ToGive r old h.bytes h.others o) (sym same) h.to_give)).good
 
 pub collected_bad : (Left : List ℕ → Type 0) (room was : ℕ) (old : ParserView) (before found : List ℕ) (vs : List (ℕ × Vertex)) (o : Option Offence) (stop : TextStop) → was ≡ room
-    → ((bytes : List ℕ) (ws : List (ℕ × Vertex)) (p : Option Offence) → Left bytes → ToGive was old bytes ws p → IsBad stop p)
-    → Collects Left room old before found vs o → IsBad stop o
-collected_bad Left room was old before found vs o stop same bad h = bad h.bytes h.others o h.are_left (subst (λ (r : ℕ). ToGive r old h.bytes h.others o) (sym same) h.to_give)
+    → ((bytes : List ℕ) (ws : List (ℕ × Vertex)) (p : Option Offence) → Left bytes → ToGive was old bytes ws p → IsBad stop ws p)
+    → Collects Left room old before found vs o → IsBad stop [] o
+collected_bad Left room was old before found vs o stop same bad h = bad_so stop h.others o (bad h.bytes h.others o h.are_left (subst (λ (r : ℕ). ToGive r old h.bytes h.others o) (sym same) h.to_give))
 
 -- what follows from an answer
+
+pub answers_so : {T F : Type 0} (r : Result T F) (P Q : T → Type 0) → ((x : T) → P x → Q x) → IfOk r P → IfOk r Q
+answers_so (Ok x) P Q f h = f x h
+answers_so (Err e) P Q f h = tt
 
 pub ends_so : {T E F : Type 0} (r : Result (Result T E) F) (A B : Type 0) → (A → B) → IfOk r (λ end. OnOk end A) → IfOk r (λ end. OnOk end B)
 ends_so (Ok (Ok x)) A B f h = f h

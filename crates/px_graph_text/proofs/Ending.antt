@@ -1,5 +1,5 @@
 -- The end of a text, and what a source still has for a parser.
-use Rattle.std.proofs.Common.{◌≡◌, ◌≢◌, ℕ, ◌+◌, ◌≤◌, Bool, true, false, List, [], ◌∷◌, ◌++◌, Option, Some, None, Result, Ok, Err, sym, ◌∙◌, ap, subst}
+use Rattle.std.proofs.Common.{◌≡◌, ◌≢◌, ℕ, ◌+◌, ◌≤◌, Bool, true, false, List, [], ◌∷◌, ◌++◌, Option, None, Result, Ok, Err, sym, ◌∙◌, ap, refl, subst}
 use Rattle.std.specs.Prelude.{IfOk, IfErr, IsTrue, IsFalse}
 use Rattle.std.proofs.lemmas.Bool.{true≢false}
 use Rattle.std.specs.List.{cons_option}
@@ -11,17 +11,25 @@ use Rattle.px_graph_text.specs.declared.refusal.Kind.{Kind}
 use Rattle.px_graph_text.specs.declared.refusal.TextStop.{TextStop}
 use Rattle.px_graph_text.specs.declared.refusal.TextStop.TheVariants.{Source, Bad}
 use Rattle.px_graph_text.specs.declared.line.State.{State}
-use Rattle.px_graph_text.specs.Kinds.{kind_of}
 use Rattle.px_graph_text.specs.Steps.{spot_of, Ends, Gives, GivesNothing, EndsOff}
-use Rattle.px_graph_text.specs.Reading.{ParserView, ToGive, Begins, IsOver, IsAt, IsBad, offence_from}
-use Rattle.px_graph_text.specs.Passing.{ToGiveAt, given_at, refused_at, Still, GoesOn, GivesFirst, Refuses, GivesLast, GivesNone, EndsBad, EndsText}
+use Rattle.px_graph_text.specs.Reading.{ParserView, ToGive, Begins, IsOver, IsRefused, IsBad, offence_from}
+use Rattle.px_graph_text.specs.Passing.{ToGiveAt, given_in, given_at, refused_at, Still, GoesOn, GivesFirst, Refuses, GivesLast, GivesNone, EndsBad, EndsText}
 use Rattle.px_graph_text.proofs.Texts.{refused_end, offence_end}
+use Rattle.px_graph_text.proofs.Passing.{refused_now}
 
 at_end : (spot : Spot) (room : ℕ) (p : ParserView) (o : Option Offence) (vs : List (ℕ × Vertex)) → p.ahead ≡ [] → p.place ≤ p.limit → ToGiveAt room spot p [] vs o → o ≡ offence_of p.line p.place (ending spot)
 at_end spot room p o vs over le h = h.refused ∙ ap (λ (l : List ℕ). refused_at room p.limit spot p.line p.place (l ++ [])) over ∙ refused_end room p.limit spot p.line p.place le
 
-given_end : (spot : Spot) (room : ℕ) (p : ParserView) (o : Option Offence) (vs : List (ℕ × Vertex)) → p.ahead ≡ [] → ToGiveAt room spot p [] vs o → vs ≡ cons_option (vertex_given (ending spot)) []
-given_end spot room p o vs over h = h.given ∙ ap (λ (l : List ℕ). given_at room spot (l ++ [])) over
+-- the last line is good
+good_end : (spot : Spot) (room : ℕ) (p : ParserView) (o : Option Offence) (vs : List (ℕ × Vertex)) (r : Reading) → p.ahead ≡ [] → p.place ≤ p.limit → ending spot ≡ r → offence_of p.line p.place r ≡ None
+    → ToGiveAt room spot p [] vs o → o ≡ None
+good_end spot room p o vs r over le is good h = at_end spot room p o vs over le h ∙ ap (offence_of p.line p.place) is ∙ good
+
+given_end : (spot : Spot) (room : ℕ) (p : ParserView) (o : Option Offence) (vs : List (ℕ × Vertex)) (r : Reading) → p.ahead ≡ [] → p.place ≤ p.limit → ending spot ≡ r → offence_of p.line p.place r ≡ None
+    → ToGiveAt room spot p [] vs o → vs ≡ cons_option (vertex_given r) []
+given_end spot room p o vs r over le is good h =
+    h.given ∙ ap (λ (q : Option Offence). given_at room spot p.line q (p.ahead ++ [])) (good_end spot room p o vs r over le is good h)
+    ∙ ap (λ (l : List ℕ). given_in room spot (lines_of (l ++ []))) over ∙ ap (λ (q : Reading). cons_option (vertex_given q) []) is
 
 start_gives_nothing : (spot : Spot) (v : ℕ) (es : List (ℕ × ℕ)) → ending spot ≡ Spelled v es → spot ≢ AtStart
 start_gives_nothing spot v es spells start = let e : Nothing ≡ Spelled v es = ap ending (sym start) ∙ spells in cc
@@ -37,8 +45,8 @@ pub gives_last : (spot : Spot) (was held : HeldVertex) (p : ParserView) → p.ah
 gives_last spot was held p over le h = record {
   to_give = λ vs o g. record {
     others = [];
-    is = given_end spot was.room p o vs over g ∙ ap (λ (r : Reading). cons_option (vertex_given r) []) h.spells ∙ ap (λ (x : Vertex). (held.vid, x) ∷ []) (sym h.is);
-    to_give = subst (ToGive was.room p [] []) (sym (at_end spot was.room p o vs over le g ∙ ap (offence_of p.line p.place) h.spells)) (ended was.room p over le);
+    is = given_end spot was.room p o vs _ over le h.spells refl g ∙ ap (λ (x : Vertex). (held.vid, x) ∷ []) (sym h.is);
+    to_give = subst (ToGive was.room p [] []) (sym (good_end spot was.room p o vs _ over le h.spells refl g)) (ended was.room p over le);
   };
   vertex = h.is;
   begun = start_gives_nothing spot held.vid held.vertex.edges h.spells;
@@ -46,8 +54,8 @@ gives_last spot was held p over le h = record {
 
 pub gives_none : (spot : Spot) (was held : HeldVertex) (p : ParserView) → p.ahead ≡ [] → p.place ≤ p.limit → GivesNothing spot was held → GivesNone spot was p
 gives_none spot was held p over le h = record {
-  none = λ vs o g. given_end spot was.room p o vs over g ∙ ap (λ (r : Reading). cons_option (vertex_given r) []) h.nothing;
-  good = λ vs o g. at_end spot was.room p o vs over le g ∙ ap (offence_of p.line p.place) h.nothing;
+  none = λ vs o g. given_end spot was.room p o vs _ over le h.nothing refl g;
+  good = λ vs o g. good_end spot was.room p o vs _ over le h.nothing refl g;
 }
 
 pub ends_text : (spot : Spot) (was held : HeldVertex) (p : ParserView) (gives : Bool) → p.ahead ≡ [] → p.place ≤ p.limit → Ends spot was held (Ok gives) → EndsText spot was held p (Ok gives)
@@ -56,10 +64,8 @@ ends_text spot was held p false over le h = gives_none spot was held p over le h
 
 pub ends_bad : (spot : Spot) (was held : HeldVertex) (p : ParserView) (line : ℕ) (kind : Kind) → line ≡ p.line → p.ahead ≡ [] → p.place ≤ p.limit → EndsOff spot was held kind → EndsBad spot was p line kind
 ends_bad spot was held p line kind same over le h = record {
-  at = λ vs o g. record {
-    place = p.place + 0;
-    is = at_end spot was.room p o vs over le g ∙ ap (offence_of p.line p.place) h.off ∙ ap (λ (n : ℕ). Some (record { line = n; place = p.place + 0; kind = kind_of kind })) (sym same);
-  };
+  at = λ vs o g.
+      subst (λ (n : ℕ). IsRefused n kind vs o) (sym same) (refused_now was.room spot p [] vs o (p.place + 0) kind (at_end spot was.room p o vs over le g ∙ ap (offence_of p.line p.place) h.off) g);
 }
 
 -- what is left in the source
@@ -80,7 +86,7 @@ pub refilled : (Left New : List ℕ → Type 0) (room : ℕ) (spot : Spot) (old 
 refilled Left New room spot old new vs o same filled h =
     let s = filled h.bytes h.are_left in
     let is : ToGiveAt room spot (record old { ahead = new.ahead }) s.bytes vs o = record {
-      given = h.is_so.given ∙ ap (given_at room spot) (sym s.is_so);
+      given = h.is_so.given ∙ ap (given_at room spot old.line o) (sym s.is_so);
       refused = h.is_so.refused ∙ ap (refused_at room old.limit spot old.line old.place) (sym s.is_so);
     } in
     record { bytes = s.bytes; are_left = s.are_left; is_so = subst (λ (v : ParserView). ToGiveAt room spot v s.bytes vs o) (sym same) is }
@@ -100,7 +106,7 @@ still_first Left room spot was held old new vs o same gives h =
     record { bytes = h.bytes; others = first.others; is = first.is; are_left = h.are_left; to_give = subst (λ (r : ℕ). ToGive r new h.bytes first.others o) same first.to_give }
 
 pub still_refused : (Left : List ℕ → Type 0) (room : ℕ) (spot : Spot) (was : HeldVertex) (old : ParserView) (kind : Kind) (vs : List (ℕ × Vertex)) (o : Option Offence) → was.room ≡ room
-    → Refuses spot was old kind → Still Left (λ rest. ToGiveAt room spot old rest vs o) → IsAt old.line kind o
+    → Refuses spot was old kind → Still Left (λ rest. ToGiveAt room spot old rest vs o) → IsRefused old.line kind vs o
 still_refused Left room spot was old kind vs o same refuses h = refuses.at h.bytes vs o (subst (λ (r : ℕ). ToGiveAt r spot old h.bytes vs o) (sym same) h.is_so)
 
 -- the answer at the end of the text
@@ -125,7 +131,7 @@ last_over (Err stop) Left New Before room spot was held p same ends at none = tt
 
 pub last_bad : (r : Result Bool TextStop) (Left : List ℕ → Type 0) (Before : List ℕ → List (ℕ × Vertex) → Option Offence → Type 0) (room : ℕ) (spot : Spot) (was held : HeldVertex) (p : ParserView) → was.room ≡ room
     → EndsText spot was held p r → ((bytes : List ℕ) (vs : List (ℕ × Vertex)) (o : Option Offence) → Left bytes → Before bytes vs o → ToGiveAt room spot p [] vs o)
-    → IfErr r (λ stop. (bytes : List ℕ) (vs : List (ℕ × Vertex)) (o : Option Offence) → Left bytes → Before bytes vs o → IsBad stop o)
+    → IfErr r (λ stop. (bytes : List ℕ) (vs : List (ℕ × Vertex)) (o : Option Offence) → Left bytes → Before bytes vs o → IsBad stop vs o)
 last_bad (Ok given) Left Before room spot was held p same ends at = tt
 last_bad (Err Source) Left Before room spot was held p same ends at = λ _ _ _ _ _. tt
 last_bad (Err (Bad line kind)) Left Before room spot was held p same ends at = λ bytes vs o left before. ends.at vs o (subst (λ (r : ℕ). ToGiveAt r spot p [] vs o) (sym same) (at bytes vs o left before))

@@ -15,9 +15,9 @@ use Rattle.px_graph_text.specs.declared.line.Stop.TheVariants.{Bytes, LineFeed, 
 use Rattle.px_graph_text.specs.declared.line.Followed.{Followed}
 use Rattle.px_graph_text.specs.Kinds.{kind_of}
 use Rattle.px_graph_text.specs.Steps.{spot_of, Leads, Stops, Follows, Ends, Gives, GivesNothing, EndsOff}
-use Rattle.px_graph_text.specs.Reading.{ParserView, ToGive, IsAt}
+use Rattle.px_graph_text.specs.Reading.{ParserView, ToGive, IsRefused, offence_from, lines_before}
 use Rattle.px_graph_text.specs.Passing.{ToGiveAt, given_at, refused_at, HasNext, HasOffence, Meets, GoesOn, GivesFirst, Refuses, EndsLine}
-use Rattle.px_graph_text.proofs.Texts.{given_leads, refused_leads, refused_off, refused_feed, good_feed, given_feed, refused_long, refused_begins, given_begins}
+use Rattle.px_graph_text.proofs.Texts.{given_leads, refused_leads, refused_off, refused_feed, good_feed, given_feed, given_refused, refused_long, refused_begins, given_begins}
 
 -- bytes of one line are gone over
 
@@ -31,7 +31,7 @@ moved_to_give room spot end old n len within led bytes vs o h =
     ap (λ (l : List ℕ). l ++ bytes) (sym (take-append-drop n old.ahead)) ∙ append_assoc (take n old.ahead) (drop n old.ahead) bytes in
     let long : length (take n old.ahead) ≡ n = length-take-le n old.ahead len in
     record {
-      given = h.given ∙ ap (given_at room spot) split ∙ given_leads room spot end (take n old.ahead) (drop n old.ahead ++ bytes) led;
+      given = h.given ∙ ap (given_at room spot old.line o) split ∙ given_leads room spot end old.line o (take n old.ahead) (drop n old.ahead ++ bytes) led;
       refused = h.refused ∙ ap (refused_at room old.limit spot old.line old.place) split
           ∙ refused_leads room old.limit spot end old.line old.place (take n old.ahead) (drop n old.ahead ++ bytes) (omega (arith, long, within)) led
           ∙ ap (λ (k : ℕ). refused_at room old.limit end old.line (old.place + k) (drop n old.ahead ++ bytes)) long;
@@ -87,21 +87,30 @@ fed_ahead old h = ap (λ (l : List ℕ). drop 1 l) h.is
 feed_ahead : (old : ParserView) (bytes : List ℕ) (h : HasNext old line_feed) → old.ahead ++ bytes ≡ line_feed ∷ (drop 1 old.ahead ++ bytes)
 feed_ahead old bytes h = ap (λ (l : List ℕ). l ++ bytes) (h.is ∙ ap (λ (l : List ℕ). line_feed ∷ l) (sym (fed_ahead old h)))
 
+-- what is refused once the LF is gone over, where the line is good
+feed_good : (room : ℕ) (spot : Spot) (old : ParserView) (bytes : List ℕ) (vs : List (ℕ × Vertex)) (o : Option Offence) → HasNext old line_feed → offence_of old.line old.place (ending spot) ≡ None
+    → ToGiveAt room spot old bytes vs o → o ≡ offence_from room old.limit (old.line + 1) (old.place + 1) (drop 1 old.ahead ++ bytes)
+feed_good room spot old bytes vs o next good h =
+    h.refused ∙ ap (refused_at room old.limit spot old.line old.place) (feed_ahead old bytes next) ∙ good_feed room old.limit spot old.line old.place (drop 1 old.ahead ++ bytes) next.within good
+
+-- and what is given from it on
+feed_given : (room : ℕ) (spot : Spot) (old : ParserView) (bytes : List ℕ) (vs : List (ℕ × Vertex)) (o : Option Offence) (r : Reading) → HasNext old line_feed → ending spot ≡ r → offence_of old.line old.place r ≡ None
+    → ToGiveAt room spot old bytes vs o → vs ≡ cons_option (vertex_given r) (vertices_given room (lines_before (old.line + 1) o (lines_of (drop 1 old.ahead ++ bytes))))
+feed_given room spot old bytes vs o r next is good h =
+    let rest = drop 1 old.ahead ++ bytes in
+    h.given ∙ ap (given_at room spot old.line o) (feed_ahead old bytes next)
+    ∙ given_feed room old.limit spot old.line old.place o rest next.within (feed_good room spot old bytes vs o next (ap (offence_of old.line old.place) is ∙ good) h)
+    ∙ ap (λ (r : Reading). cons_option (vertex_given r) (vertices_given room (lines_before (old.line + 1) o (lines_of rest)))) is
+
 pub feed_first : (spot : Spot) (was held : HeldVertex) (old new : ParserView) → new ≡ fed old → HasNext old line_feed → Gives spot was held → GivesFirst spot was held old new
 feed_first spot was held old new is next gives =
     subst (λ (v : ParserView). GivesFirst spot was held old v) (sym is) (record {
       to_give = λ bytes vs o h.
-          let rest = drop 1 old.ahead ++ bytes in
-          let good : offence_of old.line old.place (ending spot) ≡ None = ap (offence_of old.line old.place) gives.spells in
+          let others = vertices_given was.room (lines_before (old.line + 1) o (lines_of (drop 1 old.ahead ++ bytes))) in
           record {
-            others = vertices_given was.room (lines_of rest);
-            is = h.given ∙ ap (given_at was.room spot) (feed_ahead old bytes next) ∙ given_feed was.room spot rest
-                ∙ ap (λ (r : Reading). cons_option (vertex_given r) (vertices_given was.room (lines_of rest))) gives.spells
-                ∙ ap (λ (x : Vertex). (held.vid, x) ∷ vertices_given was.room (lines_of rest)) (sym gives.is);
-            to_give = record {
-              given = refl;
-              refused = h.refused ∙ ap (refused_at was.room old.limit spot old.line old.place) (feed_ahead old bytes next) ∙ good_feed was.room old.limit spot old.line old.place rest next.within good;
-            };
+            others = others;
+            is = feed_given was.room spot old bytes vs o _ next gives.spells refl h ∙ ap (λ (x : Vertex). (held.vid, x) ∷ others) (sym gives.is);
+            to_give = record { given = refl; refused = feed_good was.room spot old bytes vs o next (ap (offence_of old.line old.place) gives.spells) h };
           };
       vertex = gives.is;
     })
@@ -111,33 +120,37 @@ feed_on spot was held old new is next gives =
     subst (λ (v : ParserView). GoesOn spot was held old v Start) (sym is) (record {
       to_give = λ bytes vs o h.
           let rest = drop 1 old.ahead ++ bytes in
-          let good : offence_of old.line old.place (ending spot) ≡ None = ap (offence_of old.line old.place) gives.nothing in
           record {
-            given = h.given ∙ ap (given_at was.room spot) (feed_ahead old bytes next) ∙ given_feed was.room spot rest
-                ∙ ap (λ (r : Reading). cons_option (vertex_given r) (vertices_given was.room (lines_of rest))) gives.nothing ∙ sym (given_begins was.room rest);
-            refused = h.refused ∙ ap (refused_at was.room old.limit spot old.line old.place) (feed_ahead old bytes next) ∙ good_feed was.room old.limit spot old.line old.place rest next.within good
-                ∙ sym (refused_begins was.room old.limit (old.line + 1) (old.place + 1) rest);
+            given = feed_given was.room spot old bytes vs o _ next gives.nothing refl h ∙ sym (given_begins was.room (old.line + 1) o rest);
+            refused = feed_good was.room spot old bytes vs o next (ap (offence_of old.line old.place) gives.nothing) h ∙ sym (refused_begins was.room old.limit (old.line + 1) (old.place + 1) rest);
           };
       holds = tt;
     })
 
 -- the text is refused
 
+pub refused_now : (room : ℕ) (spot : Spot) (p : ParserView) (bytes : List ℕ) (vs : List (ℕ × Vertex)) (o : Option Offence) (place : ℕ) (kind : Kind) → o ≡ Some (record { line = p.line; place = place; kind = kind_of kind })
+    → ToGiveAt room spot p bytes vs o → IsRefused p.line kind vs o
+refused_now room spot p bytes vs o place kind is h =
+    let here : Offence = record { line = p.line; place = place; kind = kind_of kind } in
+    record {
+      given = h.given ∙ ap (λ (q : Option Offence). given_at room spot p.line q (p.ahead ++ bytes)) is ∙ given_refused room spot p.line here (p.ahead ++ bytes) refl;
+      at = record { place = place; is = is };
+    }
+
 pub feed_refused : (spot : Spot) (was held : HeldVertex) (old : ParserView) (kind : Kind) → HasNext old line_feed → EndsOff spot was held kind → Refuses spot was old kind
 feed_refused spot was held old kind next h = record {
-  at = λ bytes vs o g. record {
-    place = old.place;
-    is = g.refused ∙ ap (refused_at was.room old.limit spot old.line old.place) (feed_ahead old bytes next) ∙ refused_feed was.room old.limit spot old.line old.place (drop 1 old.ahead ++ bytes) (kind_of kind) next.within h.off;
-  };
+  at = λ bytes vs o g.
+      let is = g.refused ∙ ap (refused_at was.room old.limit spot old.line old.place) (feed_ahead old bytes next) ∙ refused_feed was.room old.limit spot old.line old.place (drop 1 old.ahead ++ bytes) (kind_of kind) next.within h.off in
+      refused_now was.room spot old bytes vs o old.place kind is g;
 }
 
 pub byte_refused : (spot : Spot) (was : HeldVertex) (old : ParserView) (kind : Kind) → HasOffence was.room spot old kind → Refuses spot was old kind
 byte_refused spot was old kind h = record {
-  at = λ bytes vs o g. record {
-    place = old.place;
-    is = g.refused ∙ ap (λ (l : List ℕ). refused_at was.room old.limit spot old.line old.place (l ++ bytes)) h.next.is
-        ∙ refused_off was.room old.limit spot old.line old.place h.byte (h.next.others ++ bytes) (kind_of kind) h.next.within h.in_line h.off;
-  };
+  at = λ bytes vs o g.
+      let is = g.refused ∙ ap (λ (l : List ℕ). refused_at was.room old.limit spot old.line old.place (l ++ bytes)) h.next.is
+      ∙ refused_off was.room old.limit spot old.line old.place h.byte (h.next.others ++ bytes) (kind_of kind) h.next.within h.in_line h.off in
+      refused_now was.room spot old bytes vs o old.place kind is g;
 }
 
 long_refused_at : (room limit : ℕ) (spot : Spot) (line place : ℕ) (ahead bytes : List ℕ) → 0 < length ahead → place ≡ limit → refused_at room limit spot line place (ahead ++ bytes) ≡ Some (record { line = line; place = limit; kind = kind_of Long })
@@ -145,7 +158,9 @@ long_refused_at room limit spot line place [] bytes some same = absurd (omega (a
 long_refused_at room limit spot line place (b ∷ ahead) bytes some same = refused_long room limit spot line place b (ahead ++ bytes) same
 
 pub long_refused : (spot : Spot) (was : HeldVertex) (old : ParserView) → 0 < length old.ahead → old.place ≡ old.limit → Refuses spot was old Long
-long_refused spot was old some same = record { at = λ bytes vs o g. record { place = old.limit; is = g.refused ∙ long_refused_at was.room old.limit spot old.line old.place old.ahead bytes some same } }
+long_refused spot was old some same = record {
+  at = λ bytes vs o g. refused_now was.room spot old bytes vs o old.limit Long (g.refused ∙ long_refused_at was.room old.limit spot old.line old.place old.ahead bytes some same) g;
+}
 
 -- the end of a line, by what it gives
 
@@ -176,5 +191,5 @@ pub then_refused : (spot : Spot) (was mid : HeldVertex) (old now : ParserView) (
     → GoesOn spot was mid old now state → Refuses (spot_of state mid) mid now kind → Refuses spot was old kind
 then_refused spot was mid old now state kind room line h k = record {
   at = λ bytes vs o g.
-      subst (λ (n : ℕ). IsAt n kind o) line (k.at bytes vs o (subst (λ (r : ℕ). ToGiveAt r (spot_of state mid) now bytes vs o) (sym room) (h.to_give bytes vs o g)));
+      subst (λ (n : ℕ). IsRefused n kind vs o) line (k.at bytes vs o (subst (λ (r : ℕ). ToGiveAt r (spot_of state mid) now bytes vs o) (sym room) (h.to_give bytes vs o g)));
 }

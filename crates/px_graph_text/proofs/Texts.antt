@@ -1,21 +1,31 @@
 -- A text from the midst of a line on, byte by byte.
-use Rattle.std.proofs.Common.{◌≡◌, ◌≢◌, ℕ, suc, ◌+◌, ◌-◌, ◌<◌, ◌≤◌, List, [], ◌∷◌, ◌++◌, length, take, Option, Some, None, ◌∙◌, ap, refl, subst, arith}
+use Rattle.std.proofs.Common.{◌≡◌, ◌≢◌, ℕ, zero, suc, ◌+◌, ◌-◌, ◌<◌, ◌≤◌, List, [], ◌∷◌, ◌++◌, length, take, Option, Some, None, ◌∙◌, ap, refl, sym, subst, arith}
 use Rattle.std.specs.Prelude.{◌==◌, nat_lt, nat_le, if◌then◌else◌, cond, count_by}
 use Rattle.std.proofs.lemmas.Bool.{cond-true, cond-false, cond_both, ne_eqb, lt-ltb, le-ltb, le-leb, lt-leb}
 use Rattle.std.proofs.lemmas.List.Sums.{sum_by-cons}
+use Rattle.std.proofs.Math.Seq.{take-nil}
 use Rattle.std.specs.List.{cons_option}
 use Rattle.px_meaning.specs.Graph.{Vertex}
 use Rattle.px_meaning.specs.GraphText.{line_feed, join_line, lines_of, Offence, offence_of, first_offence, earlier, vertex_given, vertices_given, offence}
 use Rattle.px_meaning.specs.Line.{Kind, Long, Spot, Start, Move, On, Off, move, ending, later, Reading, Nothing, Spelled, Refused, reading, reading_from}
 use Rattle.px_graph_text.specs.Steps.{Leads}
-use Rattle.px_graph_text.specs.Reading.{too_long_from, offence_from}
-use Rattle.px_graph_text.specs.Passing.{given_in, or_else, refused_in, given_at, refused_at}
+use Rattle.px_graph_text.specs.Reading.{too_long_from, offence_from, lines_before, vertices_before}
+use Rattle.px_graph_text.specs.Passing.{given_in, given_of, given_before, or_else, refused_in, given_at, refused_at}
 
 -- at a line's beginning
 
 given_at_start : (room : ℕ) (lines : List (List ℕ)) → given_in room Start lines ≡ vertices_given room lines
 given_at_start room [] = refl
 given_at_start room (l ∷ ls) = refl
+
+given_of_start : (room n : ℕ) (lines : List (List ℕ)) → given_of room Start n lines ≡ vertices_given room (take n lines)
+given_of_start room zero lines = refl
+given_of_start room (suc n) [] = refl
+given_of_start room (suc n) (l ∷ ls) = refl
+
+given_before_start : (room line : ℕ) (o : Option Offence) (lines : List (List ℕ)) → given_before room Start line o lines ≡ vertices_given room (lines_before line o lines)
+given_before_start room line None lines = given_at_start room lines
+given_before_start room line (Some o) lines = given_of_start room (o.line - line) lines
 
 refused_at_start : (room line place : ℕ) (lines : List (List ℕ)) → refused_in room Start line place lines ≡ first_offence room line place lines
 refused_at_start room line place [] = refl
@@ -57,6 +67,15 @@ given_on room spot next b [] on = ap (λ (r : Reading). cons_option (vertex_give
 given_on room spot next b (l ∷ ls) on =
     ap (λ (r : Reading). cons_option (vertex_given r) (vertices_given room ls)) (reading_on room spot next b l on) ∙ ap (λ (o : Option (ℕ × Vertex)). cons_option o (vertices_given room ls)) (given_later (reading_from room next l))
 
+given_of_on : (room : ℕ) (spot next : Spot) (n b : ℕ) (lines : List (List ℕ)) → move room spot b ≡ On next → given_of room spot n (join_line b lines) ≡ given_of room next n lines
+given_of_on room spot next zero b lines on = refl
+given_of_on room spot next (suc n) b [] on = ap (λ (ls : List (List ℕ)). given_in room spot ((b ∷ []) ∷ ls)) (take-nil n) ∙ given_on room spot next b [] on
+given_of_on room spot next (suc n) b (l ∷ ls) on = given_on room spot next b (l ∷ take n ls) on
+
+given_before_on : (room : ℕ) (spot next : Spot) (line : ℕ) (o : Option Offence) (b : ℕ) (lines : List (List ℕ)) → move room spot b ≡ On next → given_before room spot line o (join_line b lines) ≡ given_before room next line o lines
+given_before_on room spot next line None b lines on = given_on room spot next b lines on
+given_before_on room spot next line (Some o) b lines on = given_of_on room spot next (o.line - line) b lines on
+
 refused_on : (room : ℕ) (spot next : Spot) (line place b : ℕ) (lines : List (List ℕ)) → move room spot b ≡ On next → refused_in room spot line place (join_line b lines) ≡ refused_in room next line (place + 1) lines
 refused_on room spot next line place b [] on =
     or_none _ ∙ ap (offence_of line place) (reading_on room spot next b [] on) ∙ offence_later line place (ending next)
@@ -87,14 +106,14 @@ refused_at_on room limit spot next line place b rest lt ne on =
     ap (λ (o : Option Offence). earlier o (refused_in room spot line place (lines_of (b ∷ rest)))) (too_long_on limit line place b rest lt ∙ ap (λ (n : ℕ). too_long_from limit n (place + 1) rest) none)
     ∙ ap (earlier (too_long_from limit line (place + 1) rest)) (ap (refused_in room spot line place) (lines_on b rest ne) ∙ refused_on room spot next line place b (lines_of rest) on)
 
-given_at_on : (room : ℕ) (spot next : Spot) (b : ℕ) (rest : List ℕ) → b ≢ line_feed → move room spot b ≡ On next → given_at room spot (b ∷ rest) ≡ given_at room next rest
-given_at_on room spot next b rest ne on = ap (given_in room spot) (lines_on b rest ne) ∙ given_on room spot next b (lines_of rest) on
+given_at_on : (room : ℕ) (spot next : Spot) (line : ℕ) (o : Option Offence) (b : ℕ) (rest : List ℕ) → b ≢ line_feed → move room spot b ≡ On next → given_at room spot line o (b ∷ rest) ≡ given_at room next line o rest
+given_at_on room spot next line o b rest ne on = ap (given_before room spot line o) (lines_on b rest ne) ∙ given_before_on room spot next line o b (lines_of rest) on
 
 -- bytes of one line
 
-pub given_leads : (room : ℕ) (spot end : Spot) (front rest : List ℕ) → Leads room spot front end → given_at room spot (front ++ rest) ≡ given_at room end rest
-given_leads room spot end [] rest led = ap (λ (s : Spot). given_at room s rest) led
-given_leads room spot end (b ∷ front) rest led = given_at_on room spot led.1.0 b (front ++ rest) led.0 led.1.1.0 ∙ given_leads room led.1.0 end front rest led.1.1.1
+pub given_leads : (room : ℕ) (spot end : Spot) (line : ℕ) (o : Option Offence) (front rest : List ℕ) → Leads room spot front end → given_at room spot line o (front ++ rest) ≡ given_at room end line o rest
+given_leads room spot end line o [] rest led = ap (λ (s : Spot). given_at room s line o rest) led
+given_leads room spot end line o (b ∷ front) rest led = given_at_on room spot led.1.0 line o b (front ++ rest) led.0 led.1.1.0 ∙ given_leads room led.1.0 end line o front rest led.1.1.1
 
 pub refused_leads : (room limit : ℕ) (spot end : Spot) (line place : ℕ) (front rest : List ℕ) → place + length front ≤ limit → Leads room spot front end
     → refused_at room limit spot line place (front ++ rest) ≡ refused_at room limit end line (place + length front) rest
@@ -149,37 +168,65 @@ good_feed room limit spot line place rest lt is =
     ∙ ap (λ (n : ℕ). earlier (too_long_from limit (line + 1) (place + 1) rest) (first_offence room n (place + 0 + 1) (lines_of rest))) number
     ∙ ap (λ (n : ℕ). earlier (too_long_from limit (line + 1) (place + 1) rest) (first_offence room (line + 1) n (lines_of rest))) at
 
-pub given_feed : (room : ℕ) (spot : Spot) (rest : List ℕ) → given_at room spot (line_feed ∷ rest) ≡ cons_option (vertex_given (ending spot)) (vertices_given room (lines_of rest))
-given_feed room spot rest = refl
+-- an offence is not before this line and this place
+
+abbrev IsFrom : ℕ → ℕ → Option Offence → Type 0
+IsFrom line place None = Unit {0}
+IsFrom line place (Some o) = (line ≤ o.line) × (place ≤ o.place)
+
+from_more : (line later place more : ℕ) (o : Option Offence) → line ≤ later → place ≤ more → IsFrom later more o → IsFrom line place o
+from_more line later place more None le at h = tt
+from_more line later place more (Some o) le at h = (omega (arith, le, h.0), omega (arith, at, h.1))
+
+reading_from_place : (line place : ℕ) (r : Reading) → IsFrom line place (offence_of line place r)
+reading_from_place line place Nothing = tt
+reading_from_place line place (Spelled v es) = tt
+reading_from_place line place (Refused at kind) = (omega arith, omega arith)
+
+else_from : (line place : ℕ) (o other : Option Offence) → IsFrom line place o → IsFrom line place other → IsFrom line place (or_else o other)
+else_from line place None other h k = k
+else_from line place (Some o) other h k = h
+
+refused_from : (room : ℕ) (spot : Spot) (line place : ℕ) (lines : List (List ℕ)) → IsFrom line place (refused_in room spot line place lines)
+refused_from room spot line place [] = reading_from_place line place (ending spot)
+refused_from room spot line place (l ∷ ls) =
+    let at = place + length l + 1 in
+    let others = subst (IsFrom (suc line) at) (refused_at_start room (suc line) at ls) (refused_from room Start (suc line) at ls) in
+    else_from line place _ _ (reading_from_place line place (reading_from room spot l)) (from_more line (suc line) place at _ (omega arith) (omega arith) others)
+
+first_from : (room line place : ℕ) (lines : List (List ℕ)) → IsFrom line place (first_offence room line place lines)
+first_from room line place lines = subst (IsFrom line place) (refused_at_start room line place lines) (refused_from room Start line place lines)
+
+long_from : (limit line place : ℕ) (rest : List ℕ) → place ≤ limit → IsFrom line place (too_long_from limit line place rest)
+long_from limit line place rest le = cond_both (nat_lt limit (place + length rest)) _ _ (IsFrom line place) (λ _. (omega arith, le)) (λ _. tt)
+
+earlier_from : (line place : ℕ) (a b : Option Offence) → IsFrom line place a → IsFrom line place b → IsFrom line place (earlier a b)
+earlier_from line place None b h k = k
+earlier_from line place (Some a) None h k = h
+earlier_from line place (Some a) (Some b) h k = cond_both (nat_le a.place b.place) _ _ (IsFrom line place) (λ _. h) (λ _. k)
+
+offence_from_line : (room limit line place : ℕ) (rest : List ℕ) → place ≤ limit → IsFrom line place (offence_from room limit line place rest)
+offence_from_line room limit line place rest le = earlier_from line place _ _ (long_from limit line place rest le) (first_from room line place (lines_of rest))
+
+given_before_feed : (room : ℕ) (spot : Spot) (line place : ℕ) (o : Option Offence) (lines : List (List ℕ)) → IsFrom (line + 1) place o
+    → given_before room spot line o ([] ∷ lines) ≡ cons_option (vertex_given (ending spot)) (vertices_given room (lines_before (line + 1) o lines))
+given_before_feed room spot line place None lines h = refl
+given_before_feed room spot line place (Some o) lines h = let e : o.line - line ≡ suc (o.line - (line + 1)) = omega (arith, h.0) in ap (λ (n : ℕ). given_of room spot n ([] ∷ lines)) e
+
+pub given_feed : (room limit : ℕ) (spot : Spot) (line place : ℕ) (o : Option Offence) (rest : List ℕ) → place < limit → o ≡ offence_from room limit (line + 1) (place + 1) rest
+    → given_at room spot line o (line_feed ∷ rest) ≡ cons_option (vertex_given (ending spot)) (vertices_given room (lines_before (line + 1) o (lines_of rest)))
+given_feed room limit spot line place o rest lt is =
+    given_before_feed room spot line (place + 1) o (lines_of rest) (subst (IsFrom (line + 1) (place + 1)) (sym is) (offence_from_line room limit (line + 1) (place + 1) rest (omega (arith, lt))))
+
+-- a line that is refused gives nothing
+pub given_refused : (room : ℕ) (spot : Spot) (line : ℕ) (o : Offence) (rest : List ℕ) → o.line ≡ line → given_at room spot line (Some o) rest ≡ []
+given_refused room spot line o rest same = let e : o.line - line ≡ 0 = omega (arith, same) in ap (λ (n : ℕ). given_of room spot n (lines_of rest)) e
 
 -- the limit
 
-abbrev IsFrom : ℕ → Option Offence → Type 0
-IsFrom place None = Unit {0}
-IsFrom place (Some o) = place ≤ o.place
-
-from_more : (a b : ℕ) (o : Option Offence) → a ≤ b → IsFrom b o → IsFrom a o
-from_more a b None le h = tt
-from_more a b (Some o) le h = omega (arith, le, h)
-
-offence_from_place : (line place : ℕ) (r : Reading) → IsFrom place (offence_of line place r)
-offence_from_place line place Nothing = tt
-offence_from_place line place (Spelled v es) = tt
-offence_from_place line place (Refused at kind) = omega arith
-
-else_from : (place : ℕ) (o other : Option Offence) → IsFrom place o → IsFrom place other → IsFrom place (or_else o other)
-else_from place None other h k = k
-else_from place (Some o) other h k = h
-
-refused_from : (room : ℕ) (spot : Spot) (line place : ℕ) (lines : List (List ℕ)) → IsFrom place (refused_in room spot line place lines)
-refused_from room spot line place [] = offence_from_place line place (ending spot)
-refused_from room spot line place (l ∷ ls) =
-    else_from place _ _ (offence_from_place line place (reading_from room spot l))
-    (from_more place (place + length l + 1) _ (omega arith) (subst (IsFrom (place + length l + 1)) (refused_at_start room (suc line) (place + length l + 1) ls) (refused_from room Start (suc line) (place + length l + 1) ls)))
-
-earlier_limit : (a : Offence) (o : Option Offence) → IsFrom a.place o → earlier (Some a) o ≡ Some a
-earlier_limit a None h = refl
-earlier_limit a (Some o) h = cond-true (nat_le a.place o.place) _ _ (le-leb a.place o.place h)
+earlier_limit : (a : Offence) (line : ℕ) (o : Option Offence) → IsFrom line a.place o → earlier (Some a) o ≡ Some a
+earlier_limit a line None h = refl
+earlier_limit a line (Some o) h = cond-true (nat_le a.place o.place) _ _ (le-leb a.place o.place h.1)
 
 -- a byte past the limit
 pub refused_long : (room limit : ℕ) (spot : Spot) (line place b : ℕ) (rest : List ℕ) → place ≡ limit
@@ -191,7 +238,7 @@ refused_long room limit spot line place b rest same =
     let is : too_long_from limit line place (b ∷ rest) ≡ Some (record { line = line; place = limit; kind = Long }) =
     cond-true (nat_lt limit (place + suc (length rest))) _ _ (lt-ltb limit (place + suc (length rest)) lt) ∙ ap (λ (n : ℕ). Some (record { line = n; place = limit; kind = Long })) count in
     ap (λ (o : Option Offence). earlier o (refused_in room spot line place (lines_of (b ∷ rest)))) is
-    ∙ earlier_limit _ _ (subst (λ (n : ℕ). IsFrom n (refused_in room spot line place (lines_of (b ∷ rest)))) same (refused_from room spot line place (lines_of (b ∷ rest))))
+    ∙ earlier_limit _ line _ (subst (λ (n : ℕ). IsFrom line n (refused_in room spot line place (lines_of (b ∷ rest)))) same (refused_from room spot line place (lines_of (b ∷ rest))))
 
 -- the end of the text
 
@@ -210,8 +257,8 @@ offence_end room limit line place le = ap (λ (o : Option Offence). earlier o No
 
 -- the beginning of a line, and of the text
 
-pub given_begins : (room : ℕ) (rest : List ℕ) → given_at room Start rest ≡ vertices_given room (lines_of rest)
-given_begins room rest = given_at_start room (lines_of rest)
+pub given_begins : (room line : ℕ) (o : Option Offence) (rest : List ℕ) → given_at room Start line o rest ≡ vertices_given room (lines_before line o (lines_of rest))
+given_begins room line o rest = given_before_start room line o (lines_of rest)
 
 pub refused_begins : (room limit line place : ℕ) (rest : List ℕ) → refused_at room limit Start line place rest ≡ offence_from room limit line place rest
 refused_begins room limit line place rest = ap (earlier (too_long_from limit line place rest)) (refused_at_start room line place (lines_of rest))
@@ -223,3 +270,7 @@ offence_begins room limit text =
     let line : ℕ → ℕ = λ n. 1 + count_by (λ x. x == line_feed) (take n text) in
     let long : ℕ → ℕ → Option Offence = λ n k. if nat_lt limit n then Some (record { line = line k; place = limit; kind = Long }) else None in
     ap (λ (o : Option Offence). earlier o (first_offence room 1 0 (lines_of text))) (ap (λ (n : ℕ). long n limit) len ∙ ap (long (0 + length text)) all)
+
+-- a text without an offence gives the vertices of all its lines
+pub good_before : (room limit : ℕ) (text : List ℕ) → offence room limit text ≡ None → vertices_before room limit text ≡ vertices_given room (lines_of text)
+good_before room limit text good = ap (λ (o : Option Offence). vertices_given room (lines_before 1 o (lines_of text))) good

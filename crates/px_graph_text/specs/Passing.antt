@@ -1,5 +1,5 @@
 -- How a parser goes over the bytes of its frame.
-use Rattle.std.specs.Prelude.{◌≡◌, ◌≢◌, ℕ, suc, ◌+◌, ◌<◌, Bool, true, false, List, [], ◌∷◌, ◌++◌, length, Option, Some, None, Result, Ok, Err}
+use Rattle.std.specs.Prelude.{◌≡◌, ◌≢◌, ℕ, zero, suc, ◌+◌, ◌-◌, ◌<◌, Bool, true, false, List, [], ◌∷◌, ◌++◌, take, length, Option, Some, None, Result, Ok, Err}
 use Rattle.std.specs.List.{cons_option}
 use Rattle.px_meaning.specs.Graph.{Vertex}
 use Rattle.px_meaning.specs.GraphText.{line_feed, lines_of, Offence, offence_of, first_offence, earlier, vertex_given, vertices_given}
@@ -14,12 +14,23 @@ use Rattle.px_graph_text.specs.declared.line.Stop.{Stop}
 use Rattle.px_graph_text.specs.declared.line.Stop.TheVariants.{Bytes, LineFeed, Offence as Offends}
 use Rattle.px_graph_text.specs.Kinds.{kind_of}
 use Rattle.px_graph_text.specs.Steps.{spot_of, vertex_with, Holds}
-use Rattle.px_graph_text.specs.Reading.{ParserView, ToGive, IsAt, left, too_long_from}
+use Rattle.px_graph_text.specs.Reading.{ParserView, ToGive, IsRefused, left, too_long_from}
 
 -- lines of which the first is followed up to a spot: their vertices
 abbrev pub given_in : ℕ → Spot → List (List ℕ) → List (ℕ × Vertex)
 given_in room spot [] = cons_option (vertex_given (ending spot)) []
 given_in room spot (l ∷ ls) = cons_option (vertex_given (reading_from room spot l)) (vertices_given room ls)
+
+-- the vertices of so many of them
+abbrev pub given_of : ℕ → Spot → ℕ → List (List ℕ) → List (ℕ × Vertex)
+given_of room spot zero lines = []
+given_of room spot (suc n) [] = given_in room spot []
+given_of room spot (suc n) (l ∷ ls) = given_in room spot (l ∷ take n ls)
+
+-- the vertices of those before an offence, where the spot's line has this number
+abbrev pub given_before : ℕ → Spot → ℕ → Option Offence → List (List ℕ) → List (ℕ × Vertex)
+given_before room spot line None lines = given_in room spot lines
+given_before room spot line (Some o) lines = given_of room spot (o.line - line) lines
 
 abbrev pub or_else : Option Offence → Option Offence → Option Offence
 or_else (Some o) other = Some o
@@ -31,15 +42,15 @@ refused_in room spot line place [] = offence_of line place (ending spot)
 refused_in room spot line place (l ∷ ls) = or_else (offence_of line place (reading_from room spot l)) (first_offence room (suc line) (place + length l + 1) ls)
 
 -- the same of the rest of a text, from a spot in a line on
-abbrev pub given_at : ℕ → Spot → List ℕ → List (ℕ × Vertex)
-given_at room spot rest = given_in room spot (lines_of rest)
+abbrev pub given_at : ℕ → Spot → ℕ → Option Offence → List ℕ → List (ℕ × Vertex)
+given_at room spot line offence rest = given_before room spot line offence (lines_of rest)
 
 abbrev pub refused_at : ℕ → ℕ → Spot → ℕ → ℕ → List ℕ → Option Offence
 refused_at room limit spot line place rest = earlier (too_long_from limit line place rest) (refused_in room spot line place (lines_of rest))
 
 -- what a text has still to give, in the midst of a line
 pub record ToGiveAt (room : ℕ) (spot : Spot) (parser : ParserView) (bytes : List ℕ) (vertices : List (ℕ × Vertex)) (offence : Option Offence) : Type 0 where
-  pub given : vertices ≡ given_at room spot (parser.ahead ++ bytes)
+  pub given : vertices ≡ given_at room spot parser.line offence (parser.ahead ++ bytes)
   pub refused : offence ≡ refused_at room parser.limit spot parser.line parser.place (parser.ahead ++ bytes)
 
 -- some bytes are left, with which this is so
@@ -82,9 +93,9 @@ pub record GivesFirst (spot : Spot) (was held : HeldVertex) (old new : ParserVie
   pub to_give : (bytes : List ℕ) (vs : List (ℕ × Vertex)) (o : Option Offence) → ToGiveAt was.room spot old bytes vs o → First held vs (λ others. ToGive was.room new bytes others o)
   pub vertex : held.vertex ≡ vertex_with held.vertex.edges
 
--- the text is refused on the line that it stands in
+-- the text is refused on the line that it stands in, and gives no vertex before
 pub record Refuses (spot : Spot) (was : HeldVertex) (old : ParserView) (kind : Kind) : Type 0 where
-  pub at : (bytes : List ℕ) (vs : List (ℕ × Vertex)) (o : Option Offence) → ToGiveAt was.room spot old bytes vs o → IsAt old.line kind o
+  pub at : (bytes : List ℕ) (vs : List (ℕ × Vertex)) (o : Option Offence) → ToGiveAt was.room spot old bytes vs o → IsRefused old.line kind vs o
 
 -- the end of a line was gone over
 abbrev pub EndsLine : Spot → HeldVertex → HeldVertex → ParserView → ParserView → Result Bool Kind → Type 0
@@ -109,7 +120,7 @@ pub record GivesNone (spot : Spot) (was : HeldVertex) (parser : ParserView) : Ty
   pub good : (vs : List (ℕ × Vertex)) (o : Option Offence) → ToGiveAt was.room spot parser [] vs o → o ≡ None
 
 pub record EndsBad (spot : Spot) (was : HeldVertex) (parser : ParserView) (line : ℕ) (kind : Kind) : Type 0 where
-  pub at : (vs : List (ℕ × Vertex)) (o : Option Offence) → ToGiveAt was.room spot parser [] vs o → IsAt line kind o
+  pub at : (vs : List (ℕ × Vertex)) (o : Option Offence) → ToGiveAt was.room spot parser [] vs o → IsRefused line kind vs o
 
 -- the end of the text was reached
 abbrev pub EndsText : Spot → HeldVertex → HeldVertex → ParserView → Result Bool TextStop → Type 0

@@ -1,7 +1,7 @@
 -- A text that is read through a parser, and what it is still to give.
 use Rattle.std.specs.Prelude.{◌≡◌, ℕ, ◌+◌, ◌-◌, Bool, if◌then◌else◌, nat_lt, ◌==◌, List, [], ◌∷◌, ◌++◌, take, length, Option, Some, None, count_by}
 use Rattle.px_meaning.specs.Graph.{Vertex}
-use Rattle.px_meaning.specs.GraphText.{line_feed, lines_of, Offence, first_offence, earlier, vertices_given}
+use Rattle.px_meaning.specs.GraphText.{line_feed, lines_of, Offence, first_offence, earlier, vertices_given, offence}
 use Rattle.px_meaning.specs.Line.{Long}
 use Rattle.px_record.specs.Held.{HeldVertex}
 use Rattle.px_graph_text.specs.declared.refusal.Kind.{Kind}
@@ -43,9 +43,18 @@ too_long_from limit line place rest =
 abbrev pub offence_from : ℕ → ℕ → ℕ → ℕ → List ℕ → Option Offence
 offence_from room limit line place rest = earlier (too_long_from limit line place rest) (first_offence room line place (lines_of rest))
 
--- with these bytes left in the source, these vertices and this offence, or none, are those of the rest of the text
+-- the lines before the line of an offence, where the first of these lines has this number; all lines where there is no offence
+abbrev pub lines_before : ℕ → Option Offence → List (List ℕ) → List (List ℕ)
+lines_before line None lines = lines
+lines_before line (Some o) lines = take (o.line - line) lines
+
+-- the vertices that a text gives before its first offending place
+abbrev pub vertices_before : ℕ → ℕ → List ℕ → List (ℕ × Vertex)
+vertices_before room limit text = vertices_given room (lines_before 1 (offence room limit text) (lines_of text))
+
+-- with these bytes left in the source, this is the offence of the rest of the text, or it has none, and these are the vertices before it
 pub record ToGive (room : ℕ) (parser : ParserView) (bytes : List ℕ) (vertices : List (ℕ × Vertex)) (offence : Option Offence) : Type 0 where
-  pub given : vertices ≡ vertices_given room (lines_of (parser.ahead ++ bytes))
+  pub given : vertices ≡ vertices_given room (lines_before parser.line offence (lines_of (parser.ahead ++ bytes)))
   pub refused : offence ≡ offence_from room parser.limit parser.line parser.place (parser.ahead ++ bytes)
 
 -- this is so of the vertices and the offence that are to be given, where the source tells what it has left
@@ -71,7 +80,12 @@ pub record IsAt (line : ℕ) (kind : Kind) (offence : Option Offence) : Type 0 w
   pub place : ℕ
   pub is : offence ≡ Some (record { line = line; place = place; kind = kind_of kind })
 
--- a text is refused as its offence says. Of a source that fails nothing is said
-abbrev pub IsBad : TextStop → Option Offence → Type 0
-IsBad Source offence = Unit {0}
-IsBad (Bad line kind) offence = IsAt line kind offence
+-- all vertices before the offence were given, and it is on this line and of this kind
+pub record IsRefused (line : ℕ) (kind : Kind) (vertices : List (ℕ × Vertex)) (offence : Option Offence) : Type 0 where
+  pub given : vertices ≡ []
+  pub at : IsAt line kind offence
+
+-- a text is refused as its offence says, once all before it is given. Of a source that fails nothing is said
+abbrev pub IsBad : TextStop → List (ℕ × Vertex) → Option Offence → Type 0
+IsBad Source vertices offence = Unit {0}
+IsBad (Bad line kind) vertices offence = IsRefused line kind vertices offence

@@ -1,10 +1,10 @@
 // A text that is read through one frame, a vertex at a time. Whole frames are read, and the bytes of each are gone over in one
 // loop for each line. What a line has spelled goes on from frame to frame in its state and in the record.
-ghost use Rattle.std.specs.Prelude.{◌≡◌, ◌≤◌, ◌<◌, ◌+◌, ◌^◌, ◌++◌, [], ℕ, List, None, IsTrue, IsFalse, IfOk, OnErr, OnOk, IfErr, is_err, length, drop};
+ghost use Rattle.std.specs.Prelude.{◌≡◌, ◌≢◌, ◌≤◌, ◌<◌, ◌+◌, ◌^◌, ◌++◌, [], ℕ, List, None, Err, IsTrue, IsFalse, IfOk, OnErr, OnOk, IfErr, is_err, length, drop};
 ghost use Rattle.px_core.specs.Counts.{Rose};
-ghost use Rattle.px_meaning.specs.GraphText.{line_feed, offence, lines_of, vertices_given};
+ghost use Rattle.px_meaning.specs.GraphText.{line_feed, offence};
 ghost use Rattle.px_graph_text.specs.Steps.{spot_of, vertex_with, Holds, SameFrame};
-ghost use Rattle.px_graph_text.specs.Reading.{ToGive, OfRest, Begins, IsOver, IsBad, SameParser, left};
+ghost use Rattle.px_graph_text.specs.Reading.{ToGive, OfRest, Begins, IsOver, IsBad, SameParser, left, vertices_before};
 ghost use Rattle.px_graph_text.specs.Passing.{Still, HasNext, Meets, GoesOn, EndsLine, EndsText, Passes};
 
 use crate::line::{Followed, State, Stop, follow};
@@ -48,7 +48,7 @@ impl Parser {
     pub fn open(frame: Frame, limit: u64) -> Parser
         requires frame { 0 < length frame }
         requires limit { limit ≤ 2 ^ 48 }
-        ensures to_give { (room : ℕ) (text : List ℕ) → ToGive room result text (vertices_given room (lines_of text)) (offence room limit text) }
+        ensures to_give { (room : ℕ) (text : List ℕ) → ToGive room result text (vertices_before room limit text) (offence room limit text) }
         ensures limit { result.limit ≡ limit }
         ensures place { result.place ≡ 0 }
         ensures frame_len { result.frame_len ≡ length frame }
@@ -109,6 +109,7 @@ impl Parser {
         ensures only { IfErr result (λ stop. stop ≡ TextStop.Source) }
         ensures same { self.new ≡ record self.old { ahead = self.new.ahead } }
         ensures cause { OnErr result (Rose (R.faults source.old) (R.faults source.new)) }
+        ensures no_fault { OnOk result (R.faults source.new ≡ R.faults source.old) }
         ensures faults { R.faults source.old ≤ R.faults source.new }
     {
         if self.from < self.to {
@@ -208,8 +209,9 @@ impl Parser {
         ensures vertex { IfOk result (λ given. IsTrue given → into.new.vertex ≡ vertex_with into.new.vertex.edges) }
         ensures over { IfOk result (λ given. IsFalse given → OfRest (R.left source.old) into.old.room self.old (IsOver (R.left source.new))) }
         ensures ended { IfOk result (λ given. IsFalse given → (room : ℕ) → ToGive room self.new [] [] None) }
-        ensures bad { IfErr result (λ stop. OfRest (R.left source.old) into.old.room self.old (λ vertices refused. IsBad stop refused)) }
+        ensures bad { IfErr result (λ stop. OfRest (R.left source.old) into.old.room self.old (IsBad stop)) }
         ensures cause { IfErr result (λ stop. stop ≡ TextStop.Source → Rose (R.faults source.old) (R.faults source.new)) }
+        ensures no_fault { result ≢ Err TextStop.Source → R.faults source.new ≡ R.faults source.old }
         ensures faults { R.faults source.old ≤ R.faults source.new }
         ensures falls { IfOk result (λ given. IsTrue given → left self.new < left self.old) }
         ensures same { SameParser self.old self.new }
@@ -238,8 +240,9 @@ impl Parser {
         ensures vertex { IfOk result (λ given. IsTrue given → into.new.vertex ≡ vertex_with into.new.vertex.edges) }
         ensures over { IfOk result (λ given. IsFalse given → OfRest (R.left source.old) into.old.room self.old (IsOver (R.left source.new))) }
         ensures ended { IfOk result (λ given. IsFalse given → (room : ℕ) → ToGive room self.new [] [] None) }
-        ensures bad { IfErr result (λ stop. OfRest (R.left source.old) into.old.room self.old (λ vertices refused. IsBad stop refused)) }
+        ensures bad { IfErr result (λ stop. OfRest (R.left source.old) into.old.room self.old (IsBad stop)) }
         ensures cause { IfErr result (λ stop. stop ≡ TextStop.Source → Rose (R.faults source.old) (R.faults source.new)) }
+        ensures no_fault { result ≢ Err TextStop.Source → R.faults source.new ≡ R.faults source.old }
         ensures faults { R.faults source.old ≤ R.faults source.new }
         ensures falls { IfOk result (λ given. IsTrue given → left self.new < left self.old) }
         ensures same { SameParser self.old self.new }

@@ -1,9 +1,9 @@
 // Texts from outside, and each call of the source failing in turn.
-ghost use Rattle.std.specs.Prelude.{◌≡◌, ◌≤◌, ◌<◌, ◌++◌, ◌^◌, None, IsFalse, IfOk, IfErr, OnOk, length};
+ghost use Rattle.std.specs.Prelude.{◌≡◌, ◌≢◌, ◌≤◌, ◌<◌, ◌∷◌, ◌++◌, ◌^◌, [], None, Err, IsFalse, IfOk, IfErr, OnOk, length};
 ghost use Rattle.px_core.specs.Counts.{Rose};
 ghost use Rattle.px_meaning.specs.Graph.{vids};
-ghost use Rattle.px_meaning.specs.GraphText.{offence, lines_of, vertices_given};
-ghost use Rattle.px_graph_text.specs.Reading.{OfRest, IsBad, SameParser};
+ghost use Rattle.px_meaning.specs.GraphText.{offence};
+ghost use Rattle.px_graph_text.specs.Reading.{OfRest, IsBad, SameParser, vertices_before};
 
 use crate::{Kind, Parser, TextStop};
 use px_core::{MemSource, Source};
@@ -20,10 +20,11 @@ fn read_all<R: Source>(
     found: &mut Vec<u64>,
 ) -> Result<Result<(), TextStop>, AllocError>
     requires { IsFalse parser.old.spent }
-    ensures found { IfOk result (λ end. OnOk end (OfRest (R.left source.old) into.old.room parser.old (λ vs o. found.new.items ≡ found.old.items ++ vids vs))) }
+    ensures found { IfOk result (λ end. end ≢ Err TextStop.Source → OfRest (R.left source.old) into.old.room parser.old (λ vs o. found.new.items ≡ found.old.items ++ vids vs)) }
     ensures good { IfOk result (λ end. OnOk end (OfRest (R.left source.old) into.old.room parser.old (λ vs o. o ≡ None))) }
-    ensures bad { IfOk result (λ end. IfErr end (λ stop. OfRest (R.left source.old) into.old.room parser.old (λ vs o. IsBad stop o))) }
+    ensures bad { IfOk result (λ end. IfErr end (λ stop. OfRest (R.left source.old) into.old.room parser.old (λ vs o. IsBad stop [] o))) }
     ensures cause { IfOk result (λ end. IfErr end (λ stop. stop ≡ TextStop.Source → Rose (R.faults source.old) (R.faults source.new))) }
+    ensures no_fault { IfOk result (λ end. end ≢ Err TextStop.Source → R.faults source.new ≡ R.faults source.old) }
     ensures same { SameParser parser.old parser.new }
 {
     'vertices: loop {
@@ -45,9 +46,9 @@ fn read_text(
 ) -> Result<Result<(), TextStop>, AllocError>
     requires frame { 0 < length frame }
     requires limit { limit ≤ 2 ^ 48 }
-    ensures found { IfOk result (λ end. OnOk end (found.new.items ≡ found.old.items ++ vids (vertices_given into.old.room (lines_of source.old.left)))) }
+    ensures found { IfOk result (λ end. end ≢ Err TextStop.Source → found.new.items ≡ found.old.items ++ vids (vertices_before into.old.room limit source.old.left)) }
     ensures good { IfOk result (λ end. OnOk end (offence into.old.room limit source.old.left ≡ None)) }
-    ensures bad { IfOk result (λ end. IfErr end (λ stop. IsBad stop (offence into.old.room limit source.old.left))) }
+    ensures bad { IfOk result (λ end. IfErr end (λ stop. IsBad stop [] (offence into.old.room limit source.old.left))) }
 {
     let mut parser = Parser::open(frame, limit);
     read_all(&mut parser, source, into, found)
@@ -124,11 +125,22 @@ fn texts(rt: HostRuntime) -> Result<(), Fail> {
     Ok(())
 }
 
+// Reads a text whose third line is refused. The vertex of its first line is given before.
+fn read_three_lines(alloc: Global, found: &mut Vec<u64>) -> Result<Result<(), TextStop>, AllocError>
+    ensures end { IfOk result (λ end. end ≢ Err TextStop.Source → end ≡ Err (TextStop.Bad 3 Kind.Form)) }
+    ensures found { IfOk result (λ end. end ≢ Err TextStop.Source → found.new.items ≡ found.old.items ++ 4 ∷ []) }
+{
+    let mut source = MemSource::new(alloc, b"4\n\n5 6;\n", &[])?;
+    let mut into = VertexBuf::over(Frame::new(alloc, 256)?, 112);
+    let frame = Frame::new(alloc, 2)?;
+    read_text(&mut source, frame, 1000, &mut into, found)
+}
+
 // The line of an offence counts all lines, and what stands before it is given.
 #[test]
 fn third_line_is_bad(rt: HostRuntime) -> Result<(), Fail> {
     let mut found = Vec::new(rt.alloc());
-    let got = read(rt.alloc(), b"4\n\n5 6;\n", &[], 2, 1000, &mut found)?;
+    let got = read_three_lines(rt.alloc(), &mut found)?;
     let want = Err(TextStop::Bad {
         line: 3,
         kind: Kind::Form,

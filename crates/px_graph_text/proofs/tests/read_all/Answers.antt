@@ -1,5 +1,5 @@
-use Rattle.std.proofs.Common.{rules, ◌++◌, ◌∷◌, [], ℕ, ap, ◌∙◌}
-use Rattle.px_graph_text.proofs.Collecting.{collects_more, collected, collected_good, collected_bad}
+use Rattle.std.proofs.Common.{rules, ◌++◌, ◌∷◌, [], ℕ, Err, ap, ◌∙◌}
+use Rattle.px_graph_text.proofs.Collecting.{collects_more, collected, bad_given, collected_good, collected_bad}
 use Rattle.px_graph_text.proofs.tests.read_all.Goals as goal
 
 pub vertices-preserved : goal.vertices-preserved
@@ -18,10 +18,15 @@ vertices-preserved g c =
     }
 
 pub returns-in-Ok-false-clause-found : goal.returns-in-Ok-false-clause-found
-returns-in-Ok-false-clause-found g c = λ bytes vs o left h.
+returns-in-Ok-false-clause-found g c = λ _ bytes vs o left h.
     let e = c.in-Ok-false in
-    collected (g.R.Source.left c.vertices.source) (g.R.Source.left c.next.new.source) c.args.into.now.room c.vertices.into.room c.vertices.parser c.args.found.now.items c.vertices.found.items vs o c.vertices.invariant.room
-    (e.ensures.over e.field-0-test) (c.vertices.invariant.collects bytes vs o left h)
+    collected (g.R.Source.left c.vertices.source) c.args.into.now.room c.vertices.into.room c.vertices.parser c.args.found.now.items c.vertices.found.items vs o c.vertices.invariant.room
+    (λ rest ws p are_left to_give. (e.ensures.over e.field-0-test rest ws p are_left to_give).given) (c.vertices.invariant.collects bytes vs o left h)
+
+pub returns-in-Err-clause-found : goal.returns-in-Err-clause-found
+returns-in-Err-clause-found g c = λ not bytes vs o left h.
+    collected (g.R.Source.left c.vertices.source) c.args.into.now.room c.vertices.into.room c.vertices.parser c.args.found.now.items c.vertices.found.items vs o c.vertices.invariant.room
+    (λ rest ws p are_left to_give. bad_given c.in-Err.stop ws p (λ is. not (ap Err is)) (c.in-Err.ensures.bad rest ws p are_left to_give)) (c.vertices.invariant.collects bytes vs o left h)
 
 pub returns-in-Ok-false-clause-good : goal.returns-in-Ok-false-clause-good
 returns-in-Ok-false-clause-good g c = λ bytes vs o left h.

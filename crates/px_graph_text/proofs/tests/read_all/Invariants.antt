@@ -1,4 +1,4 @@
-use Rattle.std.proofs.Common.{◌≡◌, ◌≤◌, ℕ, List, Option, false}
+use Rattle.std.proofs.Common.{◌≡◌, ℕ, List, Option, false}
 use Rattle.px_meaning.specs.Graph.{Vertex}
 use Rattle.px_meaning.specs.GraphText.{Offence}
 use Rattle.px_graph_text.specs.Reading.{ToGive, SameParser, left}
@@ -11,7 +11,7 @@ invariant-vertices g l = record {
       → Collects (g.R.Source.left l.source) l.fn.into.room l.parser l.fn.found.items l.found.items vs o;
   spent : l.parser.spent ≡ false;
   room : l.into.room ≡ l.fn.into.room;
-  faults : g.R.Source.faults l.fn.source ≤ g.R.Source.faults l.source;
+  faults : g.R.Source.faults l.source ≡ g.R.Source.faults l.fn.source;
   same : SameParser l.fn.parser l.parser;
 }
 

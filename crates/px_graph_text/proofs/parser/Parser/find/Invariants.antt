@@ -14,7 +14,7 @@ invariant-loop-self g l = record {
   holds : Holds l.state l.into;
   begun : (l.state ≡ Start) ⊎ (left l.self < left l.fn.self);
   forward : left l.self ≤ left l.fn.self;
-  faults : g.R.Source.faults l.fn.source ≤ g.R.Source.faults l.source;
+  faults : g.R.Source.faults l.source ≡ g.R.Source.faults l.fn.source;
   same : SameParser l.fn.self l.self;
   frame : SameFrame l.fn.into l.into;
 }
