@@ -1,8 +1,9 @@
 // Sending along the edges of a vertex.
 ghost use Rattle.std.specs.Prelude.{◌≡◌, ◌≢◌, ◌≤◌, ℕ, OnOk, OnErr, IsTrue};
 ghost use Rattle.px_core.specs.Counts.{Rose};
-ghost use Rattle.px_program.specs.Numbers.{lesser_rule};
-ghost use Rattle.px_program.specs.Posted.{Posted, IsBeyond};
+ghost use Rattle.px_program.specs.Numbers.{num, is_num, lesser_rule};
+ghost use Rattle.px_program.specs.Posted.{Posted, contributed, IsBeyond};
+ghost use Rattle.px_program.specs.Saturating.{saturating_sum};
 ghost use Rattle.px_record.specs.Held.{IsWithin};
 ghost use Rattle.px_programs.specs.Along.{along, distances, with_sends, SendsPart};
 
@@ -21,6 +22,7 @@ pub fn send_along<O: Outbox>(v: &VertexBuf, payload: &[u8], out: &mut O) -> Resu
     ensures err { OnErr result ((p : Posted) → O.took out.old p → (made : Posted) × SendsPart (along payload.now v.now.vertex.edges) p made × O.took out.new made) }
     ensures beyond { result ≡ Err Stop.Beyond → (p : Posted) → O.took out.old p → (made : Posted) × SendsPart (along payload.now v.now.vertex.edges) p made × IsBeyond (O.made_for out.old) made }
     ensures scratch { result ≡ Err Stop.Scratch → Rose (O.faults out.old) (O.faults out.new) }
+    ensures no_fault { result ≢ Err Stop.Scratch → O.faults out.new ≡ O.faults out.old }
     ensures no_graph { result ≢ Err Stop.Graph }
     ensures faults { O.faults out.old ≤ O.faults out.new }
     ensures stays { O.made_for out.new ≡ O.made_for out.old }
@@ -33,6 +35,34 @@ pub fn send_along<O: Outbox>(v: &VertexBuf, payload: &[u8], out: &mut O) -> Resu
     Ok(())
 }
 
+/// Contributes the number, and sends the payload along each edge, in order.
+pub fn post_along<O: Outbox>(v: &VertexBuf, n: u64, payload: &[u8], out: &mut O) -> Result<(), Stop>
+    requires open { IsTrue (O.is_open out.old) }
+    requires valid { IsTrue ((O.made_for out.old).message.valid payload.now) }
+
+    ensures ok { OnOk result ((p : Posted) → O.took out.old p → O.took out.new (with_sends (along payload.now v.now.vertex.edges) (contributed n p))) }
+    ensures open { OnOk result (IsTrue (O.is_open out.new)) }
+    ensures err { OnErr result ((p : Posted) → O.took out.old p → (made : Posted) × SendsPart (along payload.now v.now.vertex.edges) (contributed n p) made × O.took out.new made) }
+    ensures beyond { result ≡ Err Stop.Beyond → (p : Posted) → O.took out.old p → (made : Posted) × SendsPart (along payload.now v.now.vertex.edges) (contributed n p) made × IsBeyond (O.made_for out.old) made }
+    ensures scratch { result ≡ Err Stop.Scratch → Rose (O.faults out.old) (O.faults out.new) }
+    ensures no_fault { result ≢ Err Stop.Scratch → O.faults out.new ≡ O.faults out.old }
+    ensures no_graph { result ≢ Err Stop.Graph }
+    ensures faults { O.faults out.old ≤ O.faults out.new }
+    ensures stays { O.made_for out.new ≡ O.made_for out.old }
+    ensures within { IsWithin v.now }
+{
+    out.contribute(n);
+    send_along(v, payload, out)
+}
+
+// The message of the distance over an edge of this weight.
+fn distance_over(d: u64, weight: u32) -> [u8; 8]
+    ensures bytes { result ≡ num (saturating_sum d weight) }
+    ensures valid { IsTrue (is_num result) }
+{
+    bytes_of(d.saturating_add(u64::from(weight)))
+}
+
 /// Sends along each edge, in order, the distance to its target, where the vertex has the distance `d`.
 pub fn send_distances<O: Outbox>(v: &VertexBuf, d: u64, out: &mut O) -> Result<(), Stop>
     requires open { IsTrue (O.is_open out.old) }
@@ -43,6 +73,7 @@ pub fn send_distances<O: Outbox>(v: &VertexBuf, d: u64, out: &mut O) -> Result<(
     ensures err { OnErr result ((p : Posted) → O.took out.old p → (made : Posted) × SendsPart (distances d v.now.vertex.edges) p made × O.took out.new made) }
     ensures beyond { result ≡ Err Stop.Beyond → (p : Posted) → O.took out.old p → (made : Posted) × SendsPart (distances d v.now.vertex.edges) p made × IsBeyond (O.made_for out.old) made }
     ensures scratch { result ≡ Err Stop.Scratch → Rose (O.faults out.old) (O.faults out.new) }
+    ensures no_fault { result ≢ Err Stop.Scratch → O.faults out.new ≡ O.faults out.old }
     ensures no_graph { result ≢ Err Stop.Graph }
     ensures faults { O.faults out.old ≤ O.faults out.new }
     ensures stays { O.made_for out.new ≡ O.made_for out.old }
@@ -50,8 +81,7 @@ pub fn send_distances<O: Outbox>(v: &VertexBuf, d: u64, out: &mut O) -> Result<(
 {
     for i in 0..v.edges() {
         let (dst, weight) = v.edge(i);
-        let payload = bytes_of(d.saturating_add(u64::from(weight)));
-        out.send(dst, &payload)?;
+        out.send(dst, &distance_over(d, weight))?;
     }
     Ok(())
 }

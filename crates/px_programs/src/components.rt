@@ -4,7 +4,7 @@ ghost use Rattle.px_meaning.specs.Merge.{IsValidMessage};
 ghost use Rattle.px_program.specs.Numbers.{number, lesser_rule};
 ghost use Rattle.px_programs.specs.Components.{components, components_laws, heard_label, new_label};
 
-use crate::along::send_along;
+use crate::along::post_along;
 use crate::lesser::Lesser;
 use crate::numbers::{bytes_of, heard, number_of, print_number};
 use px_core::{Failed, Sink, Stop, Vid};
@@ -89,8 +89,7 @@ impl Program for Components {
         if v.set_value(&payload).is_err() {
             return Err(Stop::Beyond);
         }
-        out.contribute(1);
-        send_along(v, &payload, out)
+        post_along(v, 1, &payload, out)
     }
 
     fn settle(

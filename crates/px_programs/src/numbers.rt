@@ -47,6 +47,7 @@ pub fn print_decimal<W: Sink>(n: u64, sink: &mut W) -> Result<(), Failed>
     ensures ok { OnOk result ((h : List ℕ) → W.holds sink.old h → W.holds sink.new (h ++ decimal n)) }
     ensures err { OnErr result ((h : List ℕ) → W.holds sink.old h → (k : ℕ) × W.holds sink.new (h ++ take k (decimal n))) }
     ensures cause { OnErr result (Rose (W.faults sink.old) (W.faults sink.new)) }
+    ensures no_fault { OnOk result (W.faults sink.new ≡ W.faults sink.old) }
     ensures faults { W.faults sink.old ≤ W.faults sink.new }
 {
     let mut buffer = Buffer::new();
@@ -58,6 +59,7 @@ pub fn print_number<W: Sink>(n: Option<u64>, sink: &mut W) -> Result<(), Failed>
     ensures ok { OnOk result ((h : List ℕ) → W.holds sink.old h → W.holds sink.new (h ++ decimal_or_dash n)) }
     ensures err { OnErr result ((h : List ℕ) → W.holds sink.old h → (k : ℕ) × W.holds sink.new (h ++ take k (decimal_or_dash n))) }
     ensures cause { OnErr result (Rose (W.faults sink.old) (W.faults sink.new)) }
+    ensures no_fault { OnOk result (W.faults sink.new ≡ W.faults sink.old) }
     ensures faults { W.faults sink.old ≤ W.faults sink.new }
 {
     match n {

@@ -1,10 +1,10 @@
 // pagerank: how often a walk that follows edges at random is at a vertex.
-ghost use Rattle.std.specs.Prelude.{◌≡◌, ◌/◌, option_copied, option_map};
+ghost use Rattle.std.specs.Prelude.{◌≡◌, ◌/◌, if◌then◌else◌, nat_lt, option_copied, option_map, Some, None};
 ghost use Rattle.px_meaning.specs.Merge.{IsValidMessage};
 ghost use Rattle.px_program.specs.Numbers.{number, sum_rule};
 ghost use Rattle.px_programs.specs.PageRank.{pagerank, pagerank_laws, rank_of, new_rank};
 
-use crate::along::send_along;
+use crate::along::post_along;
 use crate::numbers::{bytes_of, heard, number_of, print_number};
 use crate::sum::Sum;
 use px_core::{Failed, Sink, Stop};
@@ -49,6 +49,17 @@ impl PageRank {
             None
         } else {
             Some(rank_of(at.count, heard(msg).unwrap_or(0)))
+        }
+    }
+
+    // The part of a rank for each of so many edges, until the last round.
+    fn share(&self, at: &At, rank: u64, edges: u64) -> Option<u64>
+        ensures { result ≡ (if nat_lt at.now.superstep self.now.rounds then Some (rank / edges) else None) }
+    {
+        if at.superstep >= u64::from(self.rounds) {
+            None
+        } else {
+            Some(share_of(rank, edges))
         }
     }
 }
@@ -97,16 +108,16 @@ impl Program for PageRank {
             v.set_halt(true);
             return Ok(());
         };
-        let is_last = at.superstep >= u64::from(self.rounds);
-        v.set_halt(is_last);
+        let share = self.share(at, rank, edges);
+        v.set_halt(share.is_none());
         if v.set_value(&bytes_of(rank)).is_err() {
             return Err(Stop::Beyond);
         }
-        out.contribute(rank);
-        if is_last {
+        let Some(share) = share else {
+            out.contribute(rank);
             return Ok(());
-        }
-        send_along(v, &bytes_of(share_of(rank, edges)), out)
+        };
+        post_along(v, rank, &bytes_of(share), out)
     }
 
     fn settle(

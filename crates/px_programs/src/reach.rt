@@ -1,8 +1,9 @@
 // reach: which vertices are reached from one.
-ghost use Rattle.std.specs.Prelude.{◌≡◌};
+ghost use Rattle.std.specs.Prelude.{◌≡◌, ◌==◌, ◌&&◌, not, if◌then◌else◌, is_some, option_copied};
+ghost use Rattle.px_record.specs.Held.{IsWithin};
 ghost use Rattle.px_programs.specs.Reach.{reach, reach_laws, is_reached};
 
-use crate::along::send_along;
+use crate::along::post_along;
 use crate::empty::Empty;
 use px_core::{Failed, Sink, Stop, write_all};
 use px_frames::Wide;
@@ -25,6 +26,19 @@ impl Reach {
             from,
             message: Empty,
             verdict: NoVerdict,
+        }
+    }
+
+    // Whether a vertex is reached in this superstep, and was not before.
+    fn reaches(&self, at: &At, v: &VertexBuf, msg: Option<&[u8]>) -> bool
+        ensures reaches { result ≡ (if at.now.superstep == 0 then v.now.vid == self.now.from else is_some (option_copied msg.entry) && not (is_reached v.now.vertex.value)) }
+        ensures within { IsWithin v.now }
+    {
+        let was_reached = has_one(v.value());
+        if at.superstep == 0 {
+            v.vid() == self.from
+        } else {
+            msg.is_some() && !was_reached
         }
     }
 }
@@ -63,19 +77,13 @@ impl Program for Reach {
         msg: Option<&[u8]>,
         out: &mut O,
     ) -> Result<(), Stop> {
-        let was_reached = has_one(v.value());
-        let reached = if at.superstep == 0 {
-            v.vid() == self.from
-        } else {
-            msg.is_some() && !was_reached
-        };
+        let reached = self.reaches(at, v, msg);
         v.set_halt(true);
         if reached {
             if v.set_value(&[1]).is_err() {
                 return Err(Stop::Beyond);
             }
-            out.contribute(1);
-            return send_along(v, &[], out);
+            return post_along(v, 1, &[], out);
         }
         if at.superstep == 0 && v.set_value(&[0]).is_err() {
             return Err(Stop::Beyond);

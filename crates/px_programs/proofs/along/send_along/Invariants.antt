@@ -1,4 +1,4 @@
-use Rattle.std.proofs.Common.{◌≡◌, ◌≤◌, take}
+use Rattle.std.proofs.Common.{◌≡◌, take}
 use Rattle.std.specs.Prelude.{IsTrue}
 use Rattle.px_program.specs.Posted.{Posted}
 use Rattle.px_programs.specs.Along.{along, with_sends}
@@ -11,6 +11,6 @@ invariant-loop-i g l =
     record {
       sent : (p : Posted) → took l.fn.out p → took l.out (with_sends (along l.payload (take l.i l.v.vertex.edges)) p);
       unspent : IsTrue (g.O.Outbox.is_open l.out);
-      faults : g.O.Outbox.faults l.fn.out ≤ g.O.Outbox.faults l.out;
+      faults : g.O.Outbox.faults l.out ≡ g.O.Outbox.faults l.fn.out;
       stays : g.O.Outbox.made_for l.out ≡ g.O.Outbox.made_for l.fn.out;
     }

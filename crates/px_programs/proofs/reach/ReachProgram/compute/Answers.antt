@@ -2,7 +2,6 @@ use Rattle.std.proofs.Common.{◌≡◌, arith, subst, inr}
 use Rattle.std.proofs.lemmas.Grind.{common_steps}
 use Rattle.std.proofs.lemmas.Result.{MatchResult-weaker}
 use Rattle.std.specs.Prelude.{[], option_copied}
-use Rattle.px_program.specs.Posted.{IsBeyond, contributed}
 use Rattle.px_program.specs.Calls.{answer}
 use Rattle.px_programs.specs.Along.{along}
 use Rattle.px_programs.specs.Answers.{posts}
@@ -10,24 +9,24 @@ use Rattle.px_programs.specs.Reach.{reach, marked}
 use Rattle.px_programs.proofs.PostSteps.{part_posted, all_posted}
 use Rattle.px_programs.proofs.reach.ReachProgram.compute.Goals as goal
 use Rattle.px_programs.proofs.reach.ReachProgram.compute.Given.{Over}
-use Rattle.px_programs.proofs.reach.ReachProgram.compute.Goals.{After-send_along}
+use Rattle.px_programs.proofs.reach.ReachProgram.compute.Goals.{After-post_along}
 
 -- where the edges are sent along, the vertex is reached
-reached : (g : Over) (c : After-send_along g) → answer (reach c.args.self.now.from) c.args.at.now c.args.v.now (option_copied c.args.msg) ≡ posts (marked 1 c.args.v.now.vertex) 1 (along [] c.set_value.new.self.vertex.edges)
+reached : (g : Over) (c : After-post_along g) → answer (reach c.args.self.now.from) c.args.at.now c.args.v.now (option_copied c.args.msg) ≡ posts (marked 1 c.args.v.now.vertex) 1 (along [] c.set_value.new.self.vertex.edges)
 reached g c = grind (arith, common_steps)
 
 pub returns-then-reached-clause-posted : goal.returns-then-reached-clause-posted
 returns-then-reached-clause-posted g c = λ valid.
-    MatchResult-weaker c.send_along.result c.send_along.ensures.ok (λ x all. λ p took.
-    subst (g.O.Outbox.took c.send_along.new.out) (all_posted _ 1 _ _ p (reached g c)) (all (contributed 1 p) (c.contribute.ensures.posted p took))) (λ e h. h)
+    MatchResult-weaker c.post_along.result c.post_along.ensures.ok (λ x all. λ p took.
+    subst (g.O.Outbox.took c.post_along.new.out) (all_posted _ 1 _ _ p (reached g c)) (all p took)) (λ e h. h)
 
 pub returns-then-reached-clause-stopped : goal.returns-then-reached-clause-stopped
 returns-then-reached-clause-stopped g c = λ valid.
-    MatchResult-weaker c.send_along.result c.send_along.ensures.err (λ x h. h) (λ stop part. λ p took.
-    let made = part (contributed 1 p) (c.contribute.ensures.posted p took) in
+    MatchResult-weaker c.post_along.result c.post_along.ensures.err (λ x h. h) (λ stop part. λ p took.
+    let made = part p took in
     (made.0, part_posted _ 1 _ _ _ _ (reached g c) made.1, made.2))
 
 pub returns-then-reached-clause-beyond : goal.returns-then-reached-clause-beyond
 returns-then-reached-clause-beyond g c = λ valid is. inr (λ p took.
-    let made = c.send_along.ensures.beyond is (contributed 1 p) (c.contribute.ensures.posted p took) in
-    (made.0, part_posted _ 1 _ _ _ _ (reached g c) made.1, subst (λ f. IsBeyond f made.0) c.contribute.ensures.stays made.2))
+    let made = c.post_along.ensures.beyond is p took in
+    (made.0, part_posted _ 1 _ _ _ _ (reached g c) made.1, made.2))
