@@ -16,6 +16,7 @@ pub(crate) fn clear_file<D: Disk>(disk: &mut D, file: u32) -> Result<(), Stop>
     ensures touches { Touches (λ f. f ≡ file) (D.shown disk.old) (D.shown disk.new) }
     ensures only { IfErr result (λ e. e ≡ Stop.Scratch) }
     ensures rose { OnErr result (Rose (D.shown disk.old).faults (D.shown disk.new).faults) }
+    ensures no_fault { OnOk result ((D.shown disk.new).faults ≡ (D.shown disk.old).faults) }
     ensures reads { (D.shown disk.new).reads ≡ (D.shown disk.old).reads }
     ensures writes { (D.shown disk.new).writes ≡ (D.shown disk.old).writes }
 {
@@ -38,6 +39,7 @@ pub(crate) fn write_page<D: Disk>(
     ensures touches { Touches (λ f. f ≡ file) (D.shown disk.old) (D.shown disk.new) }
     ensures only { IfErr result (λ e. e ≡ Stop.Scratch) }
     ensures rose { OnErr result (Rose (D.shown disk.old).faults (D.shown disk.new).faults) }
+    ensures no_fault { OnOk result ((D.shown disk.new).faults ≡ (D.shown disk.old).faults) }
     ensures reads { (D.shown disk.new).reads ≡ (D.shown disk.old).reads }
     ensures writes { OnOk result ((D.shown disk.new).writes ≡ bumped (D.shown disk.old).writes) }
     ensures writes_err { OnErr result ((D.shown disk.new).writes ≡ (D.shown disk.old).writes) }
@@ -62,6 +64,7 @@ pub(crate) fn read_page<D: Disk>(
     ensures touches { Touches (λ f. f ≡ file) (D.shown disk.old) (D.shown disk.new) }
     ensures only { IfErr result (λ e. e ≡ Stop.Scratch) }
     ensures rose { OnErr result (Rose (D.shown disk.old).faults (D.shown disk.new).faults) }
+    ensures no_fault { OnOk result ((D.shown disk.new).faults ≡ (D.shown disk.old).faults) }
     ensures reads { OnOk result ((D.shown disk.new).reads ≡ bumped (D.shown disk.old).reads) }
     ensures reads_err { OnErr result ((D.shown disk.new).reads ≡ (D.shown disk.old).reads) }
     ensures writes { (D.shown disk.new).writes ≡ (D.shown disk.old).writes }

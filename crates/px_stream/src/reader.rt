@@ -97,6 +97,7 @@ impl Reader {
         ensures touches { Touches (λ f. f ≡ self.old.file) (D.shown disk.old) (D.shown disk.new) }
         ensures only { IfErr result (λ e. e ≡ Stop.Scratch) }
         ensures rose { OnErr result (Rose (D.shown disk.old).faults (D.shown disk.new).faults) }
+        ensures no_fault { OnOk result ((D.shown disk.new).faults ≡ (D.shown disk.old).faults) }
         ensures reads { OnOk result ((D.shown disk.new).reads ≡ bumped (D.shown disk.old).reads) }
         ensures reads_err { OnErr result ((D.shown disk.new).reads ≡ (D.shown disk.old).reads) }
         ensures writes { (D.shown disk.new).writes ≡ (D.shown disk.old).writes }
@@ -126,6 +127,7 @@ impl Reader {
         ensures touches { Touches (λ f. f ≡ self.old.file) (D.shown disk.old) (D.shown disk.new) }
         ensures only { IfErr result (λ e. e ≡ Stop.Scratch) }
         ensures rose { OnErr result (Rose (D.shown disk.old).faults (D.shown disk.new).faults) }
+        ensures no_fault { OnOk result ((D.shown disk.new).faults ≡ (D.shown disk.old).faults) }
         ensures reads { (D.shown disk.new).reads ≡ bumped_by (self.new.page - self.old.page) (D.shown disk.old).reads }
         ensures unread { (D.shown disk.new).reads + unread self.new ≤ (D.shown disk.old).reads + unread self.old }
         ensures writes { (D.shown disk.new).writes ≡ (D.shown disk.old).writes }
@@ -208,6 +210,7 @@ impl Reader {
         ensures touches { Touches (λ f. f ≡ self.old.file) (D.shown disk.old) (D.shown disk.new) }
         ensures only { IfErr result (λ e. e ≡ Stop.Scratch) }
         ensures rose { OnErr result (Rose (D.shown disk.old).faults (D.shown disk.new).faults) }
+        ensures no_fault { OnOk result ((D.shown disk.new).faults ≡ (D.shown disk.old).faults) }
         ensures reads { (D.shown disk.new).reads ≡ bumped_by (self.new.page - self.old.page) (D.shown disk.old).reads }
         ensures unread { (D.shown disk.new).reads + unread self.new ≤ (D.shown disk.old).reads + unread self.old }
         ensures writes { (D.shown disk.new).writes ≡ (D.shown disk.old).writes }
@@ -241,6 +244,7 @@ impl Reader {
         ensures touches { Touches (λ f. f ≡ self.old.file) (D.shown disk.old) (D.shown disk.new) }
         ensures only { IfErr result (λ e. e ≡ Stop.Scratch) }
         ensures rose { OnErr result (Rose (D.shown disk.old).faults (D.shown disk.new).faults) }
+        ensures no_fault { OnOk result ((D.shown disk.new).faults ≡ (D.shown disk.old).faults) }
         ensures reads { (D.shown disk.new).reads ≡ bumped_by (self.new.page - self.old.page) (D.shown disk.old).reads }
         ensures unread { (D.shown disk.new).reads + unread self.new ≤ (D.shown disk.old).reads + unread self.old }
         ensures writes { (D.shown disk.new).writes ≡ (D.shown disk.old).writes }

@@ -64,6 +64,7 @@ impl Writer {
         ensures touches { Touches (λ f. f ≡ self.old.file) (D.shown disk.old) (D.shown disk.new) }
         ensures only { IfErr result (λ e. e ≡ Stop.Scratch) }
         ensures rose { OnErr result (Rose (D.shown disk.old).faults (D.shown disk.new).faults) }
+        ensures no_fault { OnOk result ((D.shown disk.new).faults ≡ (D.shown disk.old).faults) }
         ensures reads { (D.shown disk.new).reads ≡ (D.shown disk.old).reads }
         ensures writes { (D.shown disk.new).writes ≡ (D.shown disk.old).writes }
         ensures file { self.new.file ≡ self.old.file }
@@ -87,6 +88,7 @@ impl Writer {
         ensures touches { Touches (λ f. f ≡ self.old.file) (D.shown disk.old) (D.shown disk.new) }
         ensures only { IfErr result (λ e. e ≡ Stop.Scratch) }
         ensures rose { OnErr result (Rose (D.shown disk.old).faults (D.shown disk.new).faults) }
+        ensures no_fault { OnOk result ((D.shown disk.new).faults ≡ (D.shown disk.old).faults) }
         ensures file { self.new.file ≡ self.old.file }
         ensures page_len { self.new.page_len ≡ self.old.page_len }
     {
@@ -129,6 +131,7 @@ impl Writer {
         ensures touches { Touches (λ f. f ≡ self.old.file) (D.shown disk.old) (D.shown disk.new) }
         ensures only { IfErr result (λ e. e ≡ Stop.Scratch) }
         ensures rose { OnErr result (Rose (D.shown disk.old).faults (D.shown disk.new).faults) }
+        ensures no_fault { OnOk result ((D.shown disk.new).faults ≡ (D.shown disk.old).faults) }
         ensures file { self.new.file ≡ self.old.file }
         ensures page_len { self.new.page_len ≡ self.old.page_len }
     {
@@ -165,6 +168,7 @@ impl Writer {
         ensures touches { Touches (λ f. f ≡ self.old.file) (D.shown disk.old) (D.shown disk.new) }
         ensures only { IfErr result (λ e. e ≡ Stop.Scratch) }
         ensures rose { OnErr result (Rose (D.shown disk.old).faults (D.shown disk.new).faults) }
+        ensures no_fault { OnOk result ((D.shown disk.new).faults ≡ (D.shown disk.old).faults) }
         ensures file { self.new.file ≡ self.old.file }
         ensures page_len { self.new.page_len ≡ self.old.page_len }
     {
@@ -189,6 +193,7 @@ impl Writer {
         ensures touches { Touches (λ f. f ≡ self.old.file) (D.shown disk.old) (D.shown disk.new) }
         ensures only { IfErr result (λ e. e ≡ Stop.Scratch) }
         ensures rose { OnErr result (Rose (D.shown disk.old).faults (D.shown disk.new).faults) }
+        ensures no_fault { OnOk result ((D.shown disk.new).faults ≡ (D.shown disk.old).faults) }
         ensures file { self.new.file ≡ self.old.file }
         ensures page_len { self.new.page_len ≡ self.old.page_len }
     {

@@ -16,6 +16,7 @@ invariant-loop-self g l =
       untouched : (l.fn.self.here ≡ [] → ⊥) → shown l.disk ≡ shown l.fn.disk;
       last : l.self.page ≤ l.self.pages;
       unread : (shown l.disk).reads + unread l.self ≤ (shown l.fn.disk).reads + unread l.fn.self;
+      no_fault : (shown l.disk).faults ≡ (shown l.fn.disk).faults;
       writes : (shown l.disk).writes ≡ (shown l.fn.disk).writes;
       left : left l.self ≤ left l.fn.self;
       page : l.fn.self.page ≤ l.self.page;
