@@ -1,10 +1,10 @@
 -- A page is written after its stamp.
-use Rattle.std.proofs.Common.{◌≡◌, ℕ, ◌+◌, ◌-◌, List, ◌++◌, length, take, drop, sym, ◌∙◌, ap, arith, append_assoc}
+use Rattle.std.proofs.Common.{◌≡◌, ℕ, ◌+◌, ◌-◌, List, ◌++◌, length, take, drop, sym, ◌∙◌, ap, subst, inl, inr, arith, append_assoc}
 use Rattle.std.proofs.Math.Seq.{take-append_seam, drop-append_seam}
 use Rattle.std.proofs.lemmas.List.{length-append, length-take, length-take-le, length-replicate, drop-append-le, drop-take}
 use Rattle.std.specs.Prelude.{Option, Some, None, replicate}
 use Rattle.std.specs.Option.{option_map}
-use Rattle.px_filedisk.specs.Block.{HasPage, StandsAt, place, put_at, stamp, with_page}
+use Rattle.px_filedisk.specs.Block.{HasPage, IsPartly, IsPartlyPut, StandsAt, place, put_at, stamp, with_page}
 
 -- one write after the other
 pub both_written : (number page at : ℕ) (stamped from : List ℕ) (old mid new : Option (List ℕ)) → at ≡ place page (length from) → stamped ≡ stamp number page
@@ -13,6 +13,20 @@ both_written number page at stamped from None mid new here is first second = sec
 both_written number page at stamped from (Some file) mid new here is first second =
     let made : ℕ → List ℕ → Option (List ℕ) = λ n s. Some (put_at (n + 16) from (put_at n s file)) in
     second ∙ ap (option_map (put_at (at + 16) from)) first ∙ ap (λ (n : ℕ). made n stamped) here ∙ ap (made (place page (length from))) is
+
+-- the stamp was written in part
+pub partly_stamped : (number page at : ℕ) (stamped from : List ℕ) (old new : Option (List ℕ)) → at ≡ place page (length from) → stamped ≡ stamp number page
+    → IsPartly at stamped old new → IsPartlyPut number page from old new
+partly_stamped number page at stamped from old new here is partly =
+    inl (subst (λ (s : List ℕ). IsPartly (place page (length from)) s old new) is (subst (λ (n : ℕ). IsPartly n stamped old new) here partly))
+
+-- the page was written in part, after its stamp
+pub partly_put : (number page at : ℕ) (stamped from : List ℕ) (old mid new : Option (List ℕ)) → at ≡ place page (length from) → stamped ≡ stamp number page
+    → mid ≡ option_map (put_at at stamped) old → IsPartly (at + 16) from mid new → IsPartlyPut number page from old new
+partly_put number page at stamped from old mid new here is first partly =
+    let After : ℕ → List ℕ → Type 0 = λ n s. IsPartly (n + 16) from (option_map (put_at n s) old) new in
+    let after : After at stamped = subst (λ (m : Option (List ℕ)). IsPartly (at + 16) from m new) first partly in
+    inr (subst (After (place page (length from))) is (subst (λ (n : ℕ). After n stamped) here after))
 
 -- what was put there stands there
 pub stands : (at : ℕ) (bytes file : List ℕ) → StandsAt at bytes (put_at at bytes file)

@@ -3,7 +3,7 @@ ghost use Rattle.std.specs.Prelude.{◌≡◌, ◌≢◌, ◌<◌, ◌≤◌, �
 ghost use Rattle.std.specs.Option.{option_map};
 ghost use Rattle.px_core.specs.Counts.{Rose, bumped};
 ghost use Rattle.px_core.specs.Shown.{Gives, HasRoom, Touches, told_if, written};
-ghost use Rattle.px_filedisk.specs.Block.{HasPage, with_page};
+ghost use Rattle.px_filedisk.specs.Block.{HasPage, IsPartlyPut, with_page};
 ghost use Rattle.px_filedisk.specs.Disk.{counts_of, shown_of};
 
 use crate::block::{read_page, write_page};
@@ -77,12 +77,17 @@ impl<F: Files> Disk for FileDisk<F> {
         ensures tells { (shown_of self.new).tells ≡ (shown_of self.old).tells }
         ensures faults { (shown_of self.old).faults ≤ (shown_of self.new).faults }
         ensures failed { OnErr result (Rose (shown_of self.old).faults (shown_of self.new).faults) }
+        ensures no_fault { OnOk result ((shown_of self.new).faults ≡ (shown_of self.old).faults) }
         ensures reads { (shown_of self.new).reads ≡ (shown_of self.old).reads }
         ensures writes { (shown_of self.new).writes ≡ (shown_of self.old).writes }
 
         ensures after { OnOk result (counts_of self.new ≡ record (counts_of self.old) { page_len = frame_bytes }) }
         ensures bytes { OnOk result ((n : ℕ) → F.bytes self.new.files n ≡ option_map (λ _. []) (F.bytes self.old.files n)) }
         ensures counted { OnErr result (counts_of self.new ≡ record (counts_of self.old) { faults = bumped self.old.faults }) }
+        ensures none_failed { OnOk result (F.failed self.new.files ≡ F.failed self.old.files) }
+        ensures reads_work { F.reads_work self.old.files → F.reads_work self.new.files }
+        ensures writes_work { (end : ℕ) → F.writes_work self.old.files end → F.writes_work self.new.files end }
+        ensures ready { (end : ℕ) → F.writes_work self.old.files end → IsOk result }
     {
         let done = self.files.start();
         checked(&mut self.faults, done)?;
@@ -97,6 +102,7 @@ impl<F: Files> Disk for FileDisk<F> {
         ensures same { OnOk result ((shown_of self.new).files file ≡ (shown_of self.old).files file) }
         ensures touches { Touches (λ f. f ≡ file) (shown_of self.old) (shown_of self.new) }
         ensures failed { OnErr result (Rose (shown_of self.old).faults (shown_of self.new).faults) }
+        ensures no_fault { OnOk result ((shown_of self.new).faults ≡ (shown_of self.old).faults) }
         ensures reads { OnOk result ((shown_of self.new).reads ≡ bumped (shown_of self.old).reads) }
         ensures reads_err { OnErr result ((shown_of self.new).reads ≡ (shown_of self.old).reads) }
         ensures writes { (shown_of self.new).writes ≡ (shown_of self.old).writes }
@@ -107,6 +113,9 @@ impl<F: Files> Disk for FileDisk<F> {
         ensures ready { F.reads_work self.old.files → (page + 1) * (length into.old + 16) < 2 ^ 64 → (page_bytes bytes : List ℕ) → F.bytes self.old.files file ≡ Some bytes
             → length page_bytes ≡ length into.old → HasPage file page page_bytes bytes → IsOk result }
         ensures counted { OnErr result (counts_of self.new ≡ record (counts_of self.old) { faults = bumped self.old.faults }) }
+        ensures none_failed { OnOk result (F.failed self.new.files ≡ F.failed self.old.files) }
+        ensures reads_work { F.reads_work self.old.files → F.reads_work self.new.files }
+        ensures writes_work { (end : ℕ) → F.writes_work self.old.files end → F.writes_work self.new.files end }
     {
         let done = read_page(&mut self.files, file, page, into);
         checked(&mut self.faults, done)?;
@@ -120,14 +129,20 @@ impl<F: Files> Disk for FileDisk<F> {
         ensures limit { OnOk result (IfSome ((shown_of self.old).files file) (HasRoom page)) }
         ensures touches { Touches (λ f. f ≡ file) (shown_of self.old) (shown_of self.new) }
         ensures failed { OnErr result (Rose (shown_of self.old).faults (shown_of self.new).faults) }
+        ensures no_fault { OnOk result ((shown_of self.new).faults ≡ (shown_of self.old).faults) }
         ensures reads { (shown_of self.new).reads ≡ (shown_of self.old).reads }
         ensures writes { OnOk result ((shown_of self.new).writes ≡ bumped (shown_of self.old).writes) }
         ensures writes_err { OnErr result ((shown_of self.new).writes ≡ (shown_of self.old).writes) }
 
         ensures after { OnOk result (counts_of self.new ≡ record (counts_of self.old) { writes = bumped self.old.writes }) }
         ensures block { OnOk result (F.bytes self.new.files file ≡ option_map (with_page file page from.now) (F.bytes self.old.files file)) }
+        ensures partly { OnErr result (IsPartlyPut file page from.now (F.bytes self.old.files file) (F.bytes self.new.files file)) }
         ensures others { (n : ℕ) → n ≢ file → F.bytes self.new.files n ≡ F.bytes self.old.files n }
         ensures counted { OnErr result (counts_of self.new ≡ record (counts_of self.old) { faults = bumped self.old.faults }) }
+        ensures none_failed { OnOk result (F.failed self.new.files ≡ F.failed self.old.files) }
+        ensures reads_work { F.reads_work self.old.files → F.reads_work self.new.files }
+        ensures writes_work { (end : ℕ) → F.writes_work self.old.files end → F.writes_work self.new.files end }
+        ensures ready { (end : ℕ) → F.writes_work self.old.files end → (page + 1) * (length from.now + 16) ≤ end → (page + 1) * (length from.now + 16) < 2 ^ 64 → IsOk result }
     {
         let done = write_page(&mut self.files, file, page, from);
         checked(&mut self.faults, done)?;
@@ -139,13 +154,19 @@ impl<F: Files> Disk for FileDisk<F> {
         ensures empty { OnOk result ((shown_of self.new).files file ≡ told_if (shown_of self.new).tells []) }
         ensures touches { Touches (λ f. f ≡ file) (shown_of self.old) (shown_of self.new) }
         ensures failed { OnErr result (Rose (shown_of self.old).faults (shown_of self.new).faults) }
+        ensures no_fault { OnOk result ((shown_of self.new).faults ≡ (shown_of self.old).faults) }
         ensures reads { (shown_of self.new).reads ≡ (shown_of self.old).reads }
         ensures writes { (shown_of self.new).writes ≡ (shown_of self.old).writes }
 
         ensures after { OnOk result (counts_of self.new ≡ counts_of self.old) }
         ensures cleared { OnOk result (F.bytes self.new.files file ≡ option_map (λ _. []) (F.bytes self.old.files file)) }
+        ensures kept { OnErr result (F.bytes self.new.files file ≡ F.bytes self.old.files file) }
         ensures others { (n : ℕ) → n ≢ file → F.bytes self.new.files n ≡ F.bytes self.old.files n }
         ensures counted { OnErr result (counts_of self.new ≡ record (counts_of self.old) { faults = bumped self.old.faults }) }
+        ensures none_failed { OnOk result (F.failed self.new.files ≡ F.failed self.old.files) }
+        ensures reads_work { F.reads_work self.old.files → F.reads_work self.new.files }
+        ensures writes_work { (end : ℕ) → F.writes_work self.old.files end → F.writes_work self.new.files end }
+        ensures ready { (end : ℕ) → F.writes_work self.old.files end → IsOk result }
     {
         let done = self.files.clear(file);
         checked(&mut self.faults, done)

@@ -72,6 +72,10 @@ impl Files for Folder {
 
     ghost reads_work = { λ _. ⊥ };
 
+    ghost writes_work = { λ _ _. ⊥ };
+
+    ghost failed = { λ _. 0 };
+
     /// Makes the folder where it is missing, and removes the page files that an earlier run left.
     fn start(&mut self) -> io::Result<()> {
         self.open.clear();

@@ -1,8 +1,5 @@
 // A disk over files in memory, whose bytes are known: what is written there is what is read.
-ghost use Rattle.std.specs.Prelude.{◌≡◌, ◌<◌, ◌+◌, ◌^◌, [], length, Some, IsOk, IfOk, IfSome, OnOk};
-ghost use Rattle.std.specs.BTreeMap.{get};
-ghost use Rattle.std.specs.Option.{option_map, unwrap_or};
-ghost use Rattle.std.specs.Ordering.{nat_cmp};
+ghost use Rattle.std.specs.Prelude.{◌≡◌, ◌<◌, ◌≤◌, ◌+◌, ◌^◌, ◌==◌, if◌then◌else◌, [], length, Some, None, Ok, IsOk, IfOk, IfSome, OnOk, OnErr, vec_capacity};
 ghost use Rattle.px_filedisk.specs.Block.{put_at};
 
 use crate::FileDisk;
@@ -10,52 +7,72 @@ use crate::block::{read_page, write_page};
 use crate::files::Files;
 use px_core::{Disk, Failed};
 use std::alloc::{AllocError, Global};
-use std::collections::BTreeMap;
 use std::io;
 use std::io::ErrorKind;
 use std::test::Fail;
 
+// Two files whose bytes are known, in memory that was set aside. Of any other file nothing is known.
 #[derive(Drop)]
 struct Kept {
-    alloc: Global,
-    files: BTreeMap<u32, Vec<u8>>,
+    file_7: Vec<u8>,
+    file_300: Vec<u8>,
 }
 
-// The bytes of a file.
-fn bytes_of(files: &BTreeMap<u32, Vec<u8>>, number: u32) -> &[u8]
-    ensures { result.now ≡ unwrap_or (option_map (λ bytes. bytes.items) (get nat_cmp files.now number)) [] }
+// Writes bytes at an offset of a file.
+fn put(file: &mut Vec<u8>, at: usize, from: &[u8]) -> Result<(), AllocError>
+    requires { at + length from.now < 2 ^ 64 }
+    ensures bytes { OnOk result (file.new.items ≡ put_at at from.now file.old.items) }
+    ensures kept { OnErr result (file.new.items ≡ file.old.items) }
+    ensures room { vec_capacity file.old ≤ vec_capacity file.new }
+    ensures ready { at + length from.now ≤ vec_capacity file.old → IsOk result }
 {
-    match files.get(&number) {
-        Some(bytes) => bytes,
-        None => &[],
+    let end = at + from.len();
+    if file.len() < end {
+        file.resize(end, 0)?;
+    }
+    file.slice_mut(at..end).copy_from_slice(from);
+    Ok(())
+}
+
+impl Kept {
+    // With so many bytes set aside for each file.
+    fn new(alloc: Global, room: usize) -> Result<Kept, AllocError>
+        ensures { IfOk result (λ k. (room ≤ vec_capacity k.file_7) × (room ≤ vec_capacity k.file_300)) }
+    {
+        Ok(Kept {
+            file_7: Vec::with_capacity(alloc, room)?,
+            file_300: Vec::with_capacity(alloc, room)?,
+        })
+    }
+
+    fn file(&self, number: u32) -> &[u8]
+        ensures { result.now ≡ (if number == 7 then self.now.file_7.items else (if number == 300 then self.now.file_300.items else [])) }
+    {
+        match number {
+            7 => &self.file_7,
+            300 => &self.file_300,
+            _ => &[],
+        }
     }
 }
 
-// A file with bytes at an offset.
-fn with_bytes(alloc: Global, file: &[u8], at: usize, from: &[u8]) -> Result<Vec<u8>, AllocError>
-    requires { at + length from.now < 2 ^ 64 }
-    ensures { IfOk result (λ bytes. bytes.items ≡ put_at at from.now file.now) }
-{
-    let mut bytes = file[..at.min(file.len())].to_vec(alloc)?;
-    bytes.resize(at, 0)?;
-    bytes.extend_from_slice(from)?;
-    let end = at + from.len();
-    bytes.extend_from_slice(&file[end.min(file.len())..])?;
-    Ok(bytes)
-}
-
 impl Files for Kept {
-    ghost bytes = { λ k n. Some (unwrap_or (option_map (λ bytes. bytes.items) (get nat_cmp k.files n)) []) };
+    ghost bytes = { λ k n. if n == 7 then Some k.file_7.items else (if n == 300 then Some k.file_300.items else None) };
 
     ghost reads_work = { λ _. Unit {0} };
 
+    ghost writes_work = { λ k end. (end ≤ vec_capacity k.file_7) × (end ≤ vec_capacity k.file_300) };
+
+    ghost failed = { λ _. 0 };
+
     fn start(&mut self) -> io::Result<()> {
-        self.files.clear();
+        self.file_7.clear();
+        self.file_300.clear();
         Ok(())
     }
 
     fn read_at(&mut self, number: u32, at: u64, into: &mut [u8]) -> io::Result<()> {
-        let file = bytes_of(&self.files, number);
+        let file = self.file(number);
         let at = at as usize;
         let end = at + into.len();
         if end > file.len() {
@@ -66,13 +83,20 @@ impl Files for Kept {
     }
 
     fn write_at(&mut self, number: u32, at: u64, from: &[u8]) -> io::Result<()> {
-        let bytes = with_bytes(self.alloc, bytes_of(&self.files, number), at as usize, from)?;
-        self.files.insert(number, bytes)?;
+        match number {
+            7 => put(&mut self.file_7, at as usize, from)?,
+            300 => put(&mut self.file_300, at as usize, from)?,
+            _ => {}
+        }
         Ok(())
     }
 
     fn clear(&mut self, number: u32) -> io::Result<()> {
-        self.files.remove(&number);
+        match number {
+            7 => self.file_7.clear(),
+            300 => self.file_300.clear(),
+            _ => {}
+        }
         Ok(())
     }
 }
@@ -93,42 +117,27 @@ fn write_and_read<F: Files>(
     Ok(())
 }
 
-// The same through the disk.
+// The same through the disk, where files of 144 bytes work: no call fails.
 fn comes_back(disk: &mut FileDisk<Kept>, from: &[u8; 8]) -> Result<[u8; 8], Failed>
-    requires { disk.old.page_len ≡ 8 }
-    ensures same { IfOk result (λ bytes. bytes ≡ from.now) }
-    ensures page_len { disk.new.page_len ≡ 8 }
+    requires seven { 144 ≤ vec_capacity disk.old.files.file_7 }
+    requires three_hundred { 144 ≤ vec_capacity disk.old.files.file_300 }
+    ensures { result ≡ Ok from.now }
 {
+    disk.start(8)?;
+    disk.clear(300)?;
     disk.write(300, 5, from)?;
     let mut bytes = [0; 8];
     disk.read(300, 5, &mut bytes)?;
     Ok(bytes)
 }
 
-// A page that was written is not refused.
-fn is_read(disk: &mut FileDisk<Kept>, from: &[u8; 8]) -> Result<Result<(), Failed>, Failed>
-    requires { disk.old.page_len ≡ 8 }
-    ensures { IfOk result (λ read. IsOk read) }
-{
-    disk.write(300, 5, from)?;
-    let mut bytes = [0; 8];
-    let read = disk.read(300, 5, &mut bytes);
-    Ok(read)
-}
-
 #[test]
 fn a_page_comes_back_from_memory(rt: HostRuntime) -> Result<(), Fail> {
-    let alloc = rt.alloc();
-    let mut files = Kept {
-        alloc,
-        files: BTreeMap::new(alloc),
-    };
+    let mut files = Kept::new(rt.alloc(), 144)?;
     let mut bytes = *b"........";
     write_and_read(&mut files, 7, 1, b"page two", &mut bytes)?;
     assert_eq!(rt; bytes, *b"page two");
-    let mut disk = FileDisk::over(files);
-    disk.start(8)?;
+    let mut disk = FileDisk::over(Kept::new(rt.alloc(), 144)?);
     assert_eq!(rt; comes_back(&mut disk, b"page six"), Ok(*b"page six"));
-    assert_eq!(rt; is_read(&mut disk, b"page six"), Ok(Ok(())));
     Ok(())
 }
