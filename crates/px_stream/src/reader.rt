@@ -128,6 +128,8 @@ impl Reader {
         ensures only { IfErr result (λ e. e ≡ Stop.Scratch) }
         ensures rose { OnErr result (Rose (D.shown disk.old).faults (D.shown disk.new).faults) }
         ensures no_fault { OnOk result ((D.shown disk.new).faults ≡ (D.shown disk.old).faults) }
+        ensures here_err { OnErr result (self.new.here ≡ []) }
+        ensures more_err { OnErr result (self.new.page < self.new.pages) }
         ensures reads { (D.shown disk.new).reads ≡ bumped_by (self.new.page - self.old.page) (D.shown disk.old).reads }
         ensures unread { (D.shown disk.new).reads + unread self.new ≤ (D.shown disk.old).reads + unread self.old }
         ensures writes { (D.shown disk.new).writes ≡ (D.shown disk.old).writes }
@@ -211,6 +213,8 @@ impl Reader {
         ensures only { IfErr result (λ e. e ≡ Stop.Scratch) }
         ensures rose { OnErr result (Rose (D.shown disk.old).faults (D.shown disk.new).faults) }
         ensures no_fault { OnOk result ((D.shown disk.new).faults ≡ (D.shown disk.old).faults) }
+        ensures here_err { OnErr result (self.new.here ≡ []) }
+        ensures more_err { OnErr result (self.new.page < self.new.pages) }
         ensures reads { (D.shown disk.new).reads ≡ bumped_by (self.new.page - self.old.page) (D.shown disk.old).reads }
         ensures unread { (D.shown disk.new).reads + unread self.new ≤ (D.shown disk.old).reads + unread self.old }
         ensures writes { (D.shown disk.new).writes ≡ (D.shown disk.old).writes }
@@ -245,6 +249,8 @@ impl Reader {
         ensures only { IfErr result (λ e. e ≡ Stop.Scratch) }
         ensures rose { OnErr result (Rose (D.shown disk.old).faults (D.shown disk.new).faults) }
         ensures no_fault { OnOk result ((D.shown disk.new).faults ≡ (D.shown disk.old).faults) }
+        ensures here_err { OnErr result (self.new.here ≡ []) }
+        ensures more_err { OnErr result (self.new.page < self.new.pages) }
         ensures reads { (D.shown disk.new).reads ≡ bumped_by (self.new.page - self.old.page) (D.shown disk.old).reads }
         ensures unread { (D.shown disk.new).reads + unread self.new ≤ (D.shown disk.old).reads + unread self.old }
         ensures writes { (D.shown disk.new).writes ≡ (D.shown disk.old).writes }

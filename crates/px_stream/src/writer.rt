@@ -65,15 +65,26 @@ impl Writer {
         ensures only { IfErr result (λ e. e ≡ Stop.Scratch) }
         ensures rose { OnErr result (Rose (D.shown disk.old).faults (D.shown disk.new).faults) }
         ensures no_fault { OnOk result ((D.shown disk.new).faults ≡ (D.shown disk.old).faults) }
+        ensures same_err { OnErr result (self.new ≡ self.old) }
         ensures reads { (D.shown disk.new).reads ≡ (D.shown disk.old).reads }
         ensures writes { (D.shown disk.new).writes ≡ (D.shown disk.old).writes }
         ensures file { self.new.file ≡ self.old.file }
         ensures page_len { self.new.page_len ≡ self.old.page_len }
     {
         clear_file(disk, self.file)?;
-        self.pages = 0;
-        self.page = start_page(&mut self.frame);
+        self.begin(0);
         Ok(())
+    }
+
+    // Makes the frame an empty page, after so many that were written.
+    fn begin(&mut self, pages: u64)
+        ensures pages { self.new.pages ≡ pages }
+        ensures here { self.new.here ≡ [] }
+        ensures file { self.new.file ≡ self.old.file }
+        ensures page_len { self.new.page_len ≡ self.old.page_len }
+    {
+        self.pages = pages;
+        self.page = start_page(&mut self.frame);
     }
 
     // Writes the page in the frame, and begins the next.
@@ -89,12 +100,13 @@ impl Writer {
         ensures only { IfErr result (λ e. e ≡ Stop.Scratch) }
         ensures rose { OnErr result (Rose (D.shown disk.old).faults (D.shown disk.new).faults) }
         ensures no_fault { OnOk result ((D.shown disk.new).faults ≡ (D.shown disk.old).faults) }
+        ensures same_err { OnErr result (self.new ≡ self.old) }
         ensures file { self.new.file ≡ self.old.file }
         ensures page_len { self.new.page_len ≡ self.old.page_len }
     {
         write_page(disk, self.file, self.pages, &self.frame)?;
-        self.pages = self.pages.saturating_add(1);
-        self.page = start_page(&mut self.frame);
+        let pages = self.pages.saturating_add(1);
+        self.begin(pages);
         Ok(())
     }
 
@@ -132,6 +144,7 @@ impl Writer {
         ensures only { IfErr result (λ e. e ≡ Stop.Scratch) }
         ensures rose { OnErr result (Rose (D.shown disk.old).faults (D.shown disk.new).faults) }
         ensures no_fault { OnOk result ((D.shown disk.new).faults ≡ (D.shown disk.old).faults) }
+        ensures same_err { OnErr result (self.new ≡ self.old) }
         ensures file { self.new.file ≡ self.old.file }
         ensures page_len { self.new.page_len ≡ self.old.page_len }
     {
@@ -169,6 +182,7 @@ impl Writer {
         ensures only { IfErr result (λ e. e ≡ Stop.Scratch) }
         ensures rose { OnErr result (Rose (D.shown disk.old).faults (D.shown disk.new).faults) }
         ensures no_fault { OnOk result ((D.shown disk.new).faults ≡ (D.shown disk.old).faults) }
+        ensures same_err { OnErr result (self.new ≡ self.old) }
         ensures file { self.new.file ≡ self.old.file }
         ensures page_len { self.new.page_len ≡ self.old.page_len }
     {
@@ -194,6 +208,7 @@ impl Writer {
         ensures only { IfErr result (λ e. e ≡ Stop.Scratch) }
         ensures rose { OnErr result (Rose (D.shown disk.old).faults (D.shown disk.new).faults) }
         ensures no_fault { OnOk result ((D.shown disk.new).faults ≡ (D.shown disk.old).faults) }
+        ensures same_err { OnErr result (self.new ≡ self.old) }
         ensures file { self.new.file ≡ self.old.file }
         ensures page_len { self.new.page_len ≡ self.old.page_len }
     {
