@@ -59,6 +59,7 @@ impl Disk for MemDisk {
         ensures tells { (shown_of self.new).tells ≡ (shown_of self.old).tells }
         ensures faults { (shown_of self.old).faults ≤ (shown_of self.new).faults }
         ensures failed { OnErr result (Rose (shown_of self.old).faults (shown_of self.new).faults) }
+        ensures no_fault { OnOk result ((shown_of self.new).faults ≡ (shown_of self.old).faults) }
         ensures reads { (shown_of self.new).reads ≡ (shown_of self.old).reads }
         ensures writes { (shown_of self.new).writes ≡ (shown_of self.old).writes }
 
@@ -80,6 +81,7 @@ impl Disk for MemDisk {
         ensures same { OnOk result ((shown_of self.new).files file ≡ (shown_of self.old).files file) }
         ensures touches { Touches (λ f. f ≡ file) (shown_of self.old) (shown_of self.new) }
         ensures failed { OnErr result (Rose (shown_of self.old).faults (shown_of self.new).faults) }
+        ensures no_fault { OnOk result ((shown_of self.new).faults ≡ (shown_of self.old).faults) }
         ensures reads { OnOk result ((shown_of self.new).reads ≡ bumped (shown_of self.old).reads) }
         ensures reads_err { OnErr result ((shown_of self.new).reads ≡ (shown_of self.old).reads) }
         ensures writes { (shown_of self.new).writes ≡ (shown_of self.old).writes }
@@ -105,6 +107,7 @@ impl Disk for MemDisk {
         ensures limit { OnOk result (IfSome ((shown_of self.old).files file) (HasRoom page)) }
         ensures touches { Touches (λ f. f ≡ file) (shown_of self.old) (shown_of self.new) }
         ensures failed { OnErr result (Rose (shown_of self.old).faults (shown_of self.new).faults) }
+        ensures no_fault { OnOk result ((shown_of self.new).faults ≡ (shown_of self.old).faults) }
         ensures reads { (shown_of self.new).reads ≡ (shown_of self.old).reads }
         ensures writes { OnOk result ((shown_of self.new).writes ≡ bumped (shown_of self.old).writes) }
         ensures writes_err { OnErr result ((shown_of self.new).writes ≡ (shown_of self.old).writes) }
@@ -131,6 +134,7 @@ impl Disk for MemDisk {
         ensures empty { OnOk result ((shown_of self.new).files file ≡ told_if (shown_of self.new).tells []) }
         ensures touches { Touches (λ f. f ≡ file) (shown_of self.old) (shown_of self.new) }
         ensures failed { OnErr result (Rose (shown_of self.old).faults (shown_of self.new).faults) }
+        ensures no_fault { OnOk result ((shown_of self.new).faults ≡ (shown_of self.old).faults) }
         ensures reads { (shown_of self.new).reads ≡ (shown_of self.old).reads }
         ensures writes { (shown_of self.new).writes ≡ (shown_of self.old).writes }
 

@@ -2,16 +2,14 @@
 ghost use Rattle.std.specs.Prelude.{◌≡◌, ◌≤◌, ◌↔◌, IsErr, IfOk, OnOk, OnErr};
 ghost use Rattle.px_memdisk.specs.Tally.{IsListed, TallyView, after_call, after_fault, after_read, after_write, after_no_memory};
 
-use px_core::Failed;
+use px_core::{Failed, Script};
 use std::alloc::{AllocError, Global};
 use std::marker::Model;
 
-/// The calls that are to fail, numbered from 1, and how many calls came to what. Each count stands still at its last value.
+/// Which calls are to fail, and how many came to what. Each count stands still at its last value.
 #[derive(Drop)]
 pub struct Tally {
-    fails: Vec<u64>,
-    calls: u64,
-    faults: u64,
+    script: Script,
     reads: u64,
     writes: u64,
     short: u64,
@@ -20,18 +18,16 @@ pub struct Tally {
 impl Model for Tally {
     ghost Value = { TallyView };
 
-    ghost view = { λ t. record { fails = t.fails.items; calls = t.calls; faults = t.faults; reads = t.reads; writes = t.writes; short = t.short } };
+    ghost view = { λ t. record { fails = t.script.fails; calls = t.script.calls; faults = t.script.faults; reads = t.reads; writes = t.writes; short = t.short } };
 }
 
 impl Tally {
     pub fn new(alloc: Global, fails: &[u64]) -> Result<Tally, AllocError>
         ensures { IfOk result (λ t. t ≡ record { fails = fails.now; calls = 0; faults = 0; reads = 0; writes = 0; short = 0 }) }
     {
-        let fails = fails.to_vec(alloc)?;
+        let script = Script::new(alloc, fails)?;
         Ok(Tally {
-            fails,
-            calls: 0,
-            faults: 0,
+            script,
             reads: 0,
             writes: 0,
             short: 0,
@@ -45,11 +41,7 @@ impl Tally {
         ensures err { OnErr result (self.new ≡ after_fault (after_call self.old)) }
         ensures faults { self.old.faults ≤ self.new.faults }
     {
-        self.calls = self.calls.saturating_add(1);
-        if self.fails.contains(&self.calls) {
-            return Err(self.fault());
-        }
-        Ok(())
+        self.script.call()
     }
 
     /// Counts a fault.
@@ -57,8 +49,7 @@ impl Tally {
         ensures value { self.new ≡ after_fault self.old }
         ensures faults { self.old.faults ≤ self.new.faults }
     {
-        self.faults = self.faults.saturating_add(1);
-        Failed
+        self.script.fault()
     }
 
     /// Counts a fault for memory alone.
