@@ -11,7 +11,6 @@
 //! The file of `streams` stays. Without words nothing is timed, and the file is removed.
 #![tactic(auto)]
 
-mod input;
 mod pages;
 mod parse;
 mod print;
@@ -20,11 +19,11 @@ mod record;
 mod streams;
 mod tally;
 
-use crate::input::Input;
 use crate::tally::Tally;
 use anyhow::{Result, bail};
 use px_core::MemSource;
 use px_filedisk::FileDisk;
+use px_stdio::Input;
 use std::time::Instant;
 use std::{env, fs};
 

@@ -1,16 +1,15 @@
 //! px: words, a graph as text, and the answer as text and a status.
 #![tactic(auto)]
 
-mod edges;
 mod ending;
 mod run;
 mod words;
 mod work;
 
-use crate::edges::{Input, Output};
 use crate::ending::Ending;
 use crate::run::px_run;
 use px_core::{ListTurns, NullDisk, write_all};
+use px_stdio::{Input, Output};
 use std::io::ErrorKind;
 use std::process::ExitCode;
 use std::{env, io};
