@@ -1,5 +1,6 @@
 -- What the clauses of a run speak of.
 use Rattle.std.specs.Prelude.{◌≡◌, ◌⊎◌, ℕ, ◌||◌, ◌==◌, nat_lt, if◌then◌else◌, IsTrue, List, ◌++◌, take}
+use Rattle.px_core.specs.Counts.{Rose}
 use Rattle.px_meaning.specs.GraphText as text
 use Rattle.px_meaning.specs.GraphText.{TextMeaning}
 use Rattle.px_graph_text.specs.Kinds.{kind_of}
@@ -36,9 +37,9 @@ IsAfterInput Source = ⊥
 IsAfterInput Sink = Unit {0}
 IsAfterInput Memory = ⊥
 
--- a sink holds one list more, or a prefix of it where its count of faults rose
-abbrev pub Grew : (List ℕ → Type 0) → Type 0 → List ℕ → List ℕ → Type 0
-Grew holds rose before more = holds (before ++ more) ⊎ (((n : ℕ) × holds (before ++ take n more)) × rose)
+-- a sink holds one list more and has not failed, or a prefix of that list where its count of faults rose
+abbrev pub Grew : (List ℕ → Type 0) → ℕ → ℕ → List ℕ → List ℕ → Type 0
+Grew holds was now before more = (holds (before ++ more) × (now ≡ was)) ⊎ (((n : ℕ) × holds (before ++ take n more)) × Rose was now)
 
 -- the statuses of today
 abbrev pub IsStatus : ℕ → Type 0

@@ -52,6 +52,7 @@ fn read_entries<R: Source>(
     ensures kinds { IfErr result IsReadEnding }
     ensures read_whole { IfErr result (λ e. IsAfterInput e → (l : List ℕ) → R.left source.old l → R.left source.new []) }
     ensures source { result ≡ Err Ending.Source → Rose (R.faults source.old) (R.faults source.new) }
+    ensures no_fault { result ≢ Err Ending.Source → R.faults source.new ≡ R.faults source.old }
     ensures faults { R.faults source.old ≤ R.faults source.new }
     ensures room { v.new.room ≡ v.old.room }
 {
@@ -80,6 +81,7 @@ fn answer<R: Source, T: Turns>(
     ensures usage { result ≡ Err Ending.Usage ↔ (job_of (words_of words.now) ≡ None) }
     ensures unread { result ≡ Err Ending.Usage → source.new ≡ source.old }
     ensures cause { result ≡ Err Ending.Source → Rose (R.faults source.old) (R.faults source.new) }
+    ensures no_fault { result ≢ Err Ending.Source → R.faults source.new ≡ R.faults source.old }
     ensures faults { R.faults source.old ≤ R.faults source.new }
 {
     let Some(job) = read_words(words) else {
@@ -98,6 +100,7 @@ fn write_text<W: Sink>(text: &[u8], out: &mut W) -> Ending
     ensures done { result ≡ Ending.Done → (h : List ℕ) → W.holds out.old h → W.holds out.new (h ++ text.now) }
     ensures part { result ≡ Ending.Sink → (h : List ℕ) → W.holds out.old h → (n : ℕ) × W.holds out.new (h ++ take n text.now) }
     ensures cause { result ≡ Ending.Sink → Rose (W.faults out.old) (W.faults out.new) }
+    ensures no_fault { result ≢ Ending.Sink → W.faults out.new ≡ W.faults out.old }
     ensures either { (result ≡ Ending.Done) ⊎ (result ≡ Ending.Sink) }
     ensures faults { W.faults out.old ≤ W.faults out.new }
 {
@@ -125,6 +128,8 @@ fn run_to_end<R: Source, W: Sink, T: Turns>(
     ensures unread { result ≡ Ending.Usage → source.new ≡ source.old }
     ensures source_cause { result ≡ Ending.Source → Rose (R.faults source.old) (R.faults source.new) }
     ensures sink_cause { result ≡ Ending.Sink → Rose (W.faults out.old) (W.faults out.new) }
+    ensures source_no_fault { result ≢ Ending.Source → R.faults source.new ≡ R.faults source.old }
+    ensures sink_no_fault { result ≢ Ending.Sink → W.faults out.new ≡ W.faults out.old }
     ensures source_faults { R.faults source.old ≤ R.faults source.new }
     ensures sink_faults { W.faults out.old ≤ W.faults out.new }
 {
@@ -137,7 +142,7 @@ fn run_to_end<R: Source, W: Sink, T: Turns>(
 // Writes the line of an ending. A failure there changes no status.
 fn report<E: Sink>(ending: Ending, errs: &mut E)
     ensures quiet { ending ≡ Ending.Done → errs.new ≡ errs.old }
-    ensures line { ending ≢ Ending.Done → (e : List ℕ) → E.holds errs.old e → Grew (E.holds errs.new) (Rose (E.faults errs.old) (E.faults errs.new)) e (line_of ending) }
+    ensures line { ending ≢ Ending.Done → (e : List ℕ) → E.holds errs.old e → Grew (E.holds errs.new) (E.faults errs.old) (E.faults errs.new) e (line_of ending) }
     ensures faults { E.faults errs.old ≤ E.faults errs.new }
 {
     if ending != Ending::Done {
@@ -172,9 +177,11 @@ pub fn px_run<R: Source, W: Sink, E: Sink, G: Disk, S: Disk, T: Turns>(
     ensures part { result ≡ 9 → (l h : List ℕ) → R.left source.old l → W.holds out.old h → (n : ℕ) × W.holds out.new (h ++ take n (text_owed (due (words_of words.now) l))) }
     ensures unwritten { result ≢ 0 → result ≢ 9 → out.new ≡ out.old }
 
-    // What a fault is the cause of.
+    // What a fault is the cause of, and that none passes unanswered: after a failure no device is asked again.
     ensures source_failed { result ≡ 8 → Rose (R.faults source.old) (R.faults source.new) }
+    ensures source_no_fault { result ≢ 8 → R.faults source.new ≡ R.faults source.old }
     ensures sink_failed { result ≡ 9 → Rose (W.faults out.old) (W.faults out.new) }
+    ensures sink_no_fault { result ≢ 9 → W.faults out.new ≡ W.faults out.old }
     ensures sink_owed { result ≡ 9 → (l : List ℕ) → R.left source.old l → status_of (ending_of (due (words_of words.now) l)) ≡ 0 }
     ensures graph { graph.new ≡ graph.old }
     ensures scratch { scratch.new ≡ scratch.old }
@@ -186,7 +193,7 @@ pub fn px_run<R: Source, W: Sink, E: Sink, G: Disk, S: Disk, T: Turns>(
     // The line on the error sink.
     ensures quiet { result ≡ 0 → errs.new ≡ errs.old }
     ensures line { result ≢ 0 → (l e : List ℕ) → R.left source.old l → E.holds errs.old e
-        → Grew (E.holds errs.new) (Rose (E.faults errs.old) (E.faults errs.new)) e (line_owed result (due (words_of words.now) l)) }
+        → Grew (E.holds errs.new) (E.faults errs.old) (E.faults errs.new) e (line_owed result (due (words_of words.now) l)) }
 {
     let _ = graph;
     let _ = scratch;
