@@ -48,6 +48,36 @@ impl Write for Stuck {
     }
 }
 
+// A reader and writer that fails at its first call, and then has nothing and takes everything.
+#[derive(Drop)]
+struct FailsOnce {
+    has_failed: bool,
+}
+
+impl Read for FailsOnce {
+    fn read(&mut self, _into: &mut [u8]) -> io::Result<usize> {
+        if self.has_failed {
+            return Ok(0);
+        }
+        self.has_failed = true;
+        Err(io::Error::from(ErrorKind::BrokenPipe))
+    }
+}
+
+impl Write for FailsOnce {
+    fn write(&mut self, from: &[u8]) -> io::Result<usize> {
+        if self.has_failed {
+            return Ok(from.len());
+        }
+        self.has_failed = true;
+        Err(io::Error::from(ErrorKind::BrokenPipe))
+    }
+
+    fn flush(&mut self) -> io::Result<()> {
+        Ok(())
+    }
+}
+
 // A reader that tells what is left gives the first of it.
 fn read_here(input: &mut Input<Flaky<'_>>, into: &mut [u8]) -> Result<usize, Failed>
     requires { input.old.reader.bytes.now ≡ 97 ∷ 98 ∷ [] }
@@ -81,6 +111,16 @@ fn an_interrupted_read_is_made_again(rt: HostRuntime) {
 fn interruptions_without_end_are_a_fault(rt: HostRuntime) {
     let mut input = Input::new(Stuck);
     assert_eq!(rt; input.read(&mut [0; 4]), Err(Failed));
+}
+
+#[test]
+fn a_failed_call_is_not_made_again(rt: HostRuntime) {
+    let mut input = Input::new(FailsOnce { has_failed: false });
+    assert_eq!(rt; input.read(&mut [0; 4]), Err(Failed));
+    assert_eq!(rt; input.read(&mut [0; 4]), Ok(0));
+    let mut output = Output::new(FailsOnce { has_failed: false });
+    assert_eq!(rt; output.write(b"a"), Err(Failed));
+    assert_eq!(rt; output.write(b"a"), Ok(1));
 }
 
 #[test]
