@@ -2,3 +2,5 @@ pub mod Bits
 pub mod Pages
 pub mod Partition
 pub mod Telling
+pub mod Keeping
+pub mod Steps

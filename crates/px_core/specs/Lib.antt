@@ -7,3 +7,5 @@ pub mod Partition
 pub mod Picks
 pub mod Shown
 pub mod Told
+pub mod Same
+pub mod Parts

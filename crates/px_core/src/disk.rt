@@ -1,8 +1,7 @@
 // A device of page files, which may tell what it holds.
-ghost use Rattle.std.specs.Prelude.{◌≡◌, ◌≤◌, [], ℕ, length, OnOk, OnErr, IfSome};
+ghost use Rattle.std.specs.Prelude.{◌≡◌, [], ℕ, length, OnOk, OnErr, IfSome};
 ghost use Rattle.std.specs.Option.{option_map};
-ghost use Rattle.px_core.specs.Counts.{Rose, bumped};
-ghost use Rattle.px_core.specs.Shown.{Shown, Touches, Gives, HasRoom, written, told_if};
+ghost use Rattle.px_core.specs.Shown.{Shown, Only, NoFile, Worked, Stopped, Started, Unstarted, Gives, HasRoom, written, told_if};
 
 use crate::Failed;
 
@@ -17,27 +16,16 @@ pub trait Disk: Drop {
     /// Empties all files and sets the page length, which no other call changes. From then on every file is told to be empty.
     /// After `Failed` nothing is told of any file, nor which of the two page lengths holds.
     fn start(&mut self, frame_bytes: u32) -> Result<(), Failed>
-        ensures empty { OnOk result ((f : ℕ) → (shown self.new).files f ≡ told_if (shown self.new).tells []) }
-        ensures page_len { OnOk result ((shown self.new).page_len ≡ frame_bytes) }
-        ensures tells { (shown self.new).tells ≡ (shown self.old).tells }
-        ensures faults { (shown self.old).faults ≤ (shown self.new).faults }
-        ensures failed { OnErr result (Rose (shown self.old).faults (shown self.new).faults) }
-        ensures no_fault { OnOk result ((shown self.new).faults ≡ (shown self.old).faults) }
-        ensures reads { (shown self.new).reads ≡ (shown self.old).reads }
-        ensures writes { (shown self.new).writes ≡ (shown self.old).writes };
+        ensures ok { OnOk result (Started frame_bytes (shown self.old) (shown self.new)) }
+        ensures err { OnErr result (Unstarted (shown self.old) (shown self.new)) };
 
     /// Reads a page into a slice of the page length. A page below the end of the file is told to be these bytes; past the end the bytes are any.
     /// After `Failed` the slice holds any bytes, and nothing is told of the file.
     fn read(&mut self, file: u32, page: u64, into: &mut [u8]) -> Result<(), Failed>
         requires { length into.old ≡ (shown self.old).page_len }
         ensures page { OnOk result (IfSome ((shown self.old).files file) (Gives page into.new)) }
-        ensures same { OnOk result ((shown self.new).files file ≡ (shown self.old).files file) }
-        ensures touches { Touches (λ f. f ≡ file) (shown self.old) (shown self.new) }
-        ensures failed { OnErr result (Rose (shown self.old).faults (shown self.new).faults) }
-        ensures no_fault { OnOk result ((shown self.new).faults ≡ (shown self.old).faults) }
-        ensures reads { OnOk result ((shown self.new).reads ≡ bumped (shown self.old).reads) }
-        ensures reads_err { OnErr result ((shown self.new).reads ≡ (shown self.old).reads) }
-        ensures writes { (shown self.new).writes ≡ (shown self.old).writes };
+        ensures ok { OnOk result (Worked NoFile 1 0 (shown self.old) (shown self.new)) }
+        ensures err { OnErr result (Stopped (Only file) 0 0 (shown self.old) (shown self.new)) };
 
     /// Writes a page, of the page length. Below the end of the file it replaces the page there, at the end it adds one, past the end the file stays as it is:
     /// the file is told to have these pages. A write that would add a page to 2^40 answers `Failed`. After `Failed` nothing is told of the file.
@@ -45,21 +33,14 @@ pub trait Disk: Drop {
         requires { length from.now ≡ (shown self.old).page_len }
         ensures page { OnOk result ((shown self.new).files file ≡ option_map (written page from.now) ((shown self.old).files file)) }
         ensures limit { OnOk result (IfSome ((shown self.old).files file) (HasRoom page)) }
-        ensures touches { Touches (λ f. f ≡ file) (shown self.old) (shown self.new) }
-        ensures failed { OnErr result (Rose (shown self.old).faults (shown self.new).faults) }
-        ensures no_fault { OnOk result ((shown self.new).faults ≡ (shown self.old).faults) }
-        ensures reads { (shown self.new).reads ≡ (shown self.old).reads }
-        ensures writes { OnOk result ((shown self.new).writes ≡ bumped (shown self.old).writes) }
-        ensures writes_err { OnErr result ((shown self.new).writes ≡ (shown self.old).writes) };
+        ensures ok { OnOk result (Worked (Only file) 0 1 (shown self.old) (shown self.new)) }
+        ensures err { OnErr result (Stopped (Only file) 0 0 (shown self.old) (shown self.new)) };
 
     /// Makes a file empty, and it is told to be so. After `Failed` nothing is told of the file.
     fn clear(&mut self, file: u32) -> Result<(), Failed>
         ensures empty { OnOk result ((shown self.new).files file ≡ told_if (shown self.new).tells []) }
-        ensures touches { Touches (λ f. f ≡ file) (shown self.old) (shown self.new) }
-        ensures failed { OnErr result (Rose (shown self.old).faults (shown self.new).faults) }
-        ensures no_fault { OnOk result ((shown self.new).faults ≡ (shown self.old).faults) }
-        ensures reads { (shown self.new).reads ≡ (shown self.old).reads }
-        ensures writes { (shown self.new).writes ≡ (shown self.old).writes };
+        ensures ok { OnOk result (Worked (Only file) 0 0 (shown self.old) (shown self.new)) }
+        ensures err { OnErr result (Stopped (Only file) 0 0 (shown self.old) (shown self.new)) };
 
     /// How many reads answered Ok. The count stands still at `u64::MAX`.
     fn reads(&self) -> u64

@@ -56,7 +56,6 @@ impl Source for MemSource {
         ensures end { 0 < length into.new → IfOk result (λ n. n ≡ 0 → (l : List ℕ) → IsLeft self.old l → l ≡ []) }
         ensures err { OnErr result ((l : List ℕ) → IsLeft self.old l → IsLeft self.new l) }
         ensures cause { OnErr result (Rose self.old.faults self.new.faults) }
-        ensures faults { self.old.faults ≤ self.new.faults }
 
         ensures listed { IsErr result ↔ NextFails self.old.fails self.old.calls }
         ensures moved { IfOk result (λ n. n ≡ min (length into.old) (length self.old.left)) }
@@ -125,7 +124,6 @@ impl Sink for MemSink {
         ensures ok { IfOk result (λ n. (h : List ℕ) → IsHeld self.old h → IsHeld self.new (h ++ take n from.now)) }
         ensures err { OnErr result ((h : List ℕ) → IsHeld self.old h → IsHeld self.new h) }
         ensures cause { OnErr result (Rose self.old.faults self.new.faults) }
-        ensures faults { self.old.faults ≤ self.new.faults }
 
         ensures listed { IsErr result ↔ (NextFails self.old.fails self.old.calls ⊎ ((0 < length from.now) × (length self.old.held ≡ self.old.most))) }
         ensures taken { IfOk result (λ n. n ≡ min (length from.now) (self.old.most - length self.old.held)) }

@@ -1,9 +1,7 @@
 // A disk that does nothing.
-ghost use Rattle.std.specs.Prelude.{◌≡◌, ◌≤◌, [], ℕ, length, OnOk, OnErr, IsErr, IfSome};
-ghost use Rattle.std.specs.Option.{option_map};
+ghost use Rattle.std.specs.Prelude.{◌≡◌, length, IsErr};
 ghost use Rattle.px_core.specs.Counts.{Rose, bumped};
 ghost use Rattle.px_core.specs.Null.{shown_of};
-ghost use Rattle.px_core.specs.Shown.{Touches, Gives, HasRoom, written, told_if};
 
 use crate::{Disk, Failed};
 use std::marker::Model;
@@ -33,7 +31,7 @@ impl NullDisk {
     fn refuse(&mut self) -> Result<(), Failed>
         ensures always { IsErr result }
         ensures counted { self.new.faults ≡ bumped self.old.faults }
-        ensures faults { self.old.faults ≤ self.new.faults }
+        ensures rose { Rose self.old.faults self.new.faults }
     {
         self.faults = self.faults.saturating_add(1);
         Err(Failed)
@@ -46,7 +44,7 @@ impl Disk for NullDisk {
     fn start(&mut self, _frame_bytes: u32) -> Result<(), Failed>
         ensures always { IsErr result }
         ensures counted { self.new.faults ≡ bumped self.old.faults }
-        ensures faults { self.old.faults ≤ self.new.faults }
+        ensures rose { Rose self.old.faults self.new.faults }
     {
         self.refuse()
     }
@@ -55,7 +53,7 @@ impl Disk for NullDisk {
         requires { length into.old ≡ (shown_of self.old).page_len }
         ensures always { IsErr result }
         ensures counted { self.new.faults ≡ bumped self.old.faults }
-        ensures faults { self.old.faults ≤ self.new.faults }
+        ensures rose { Rose self.old.faults self.new.faults }
         ensures same { into.new ≡ into.old }
     {
         self.refuse()
@@ -65,7 +63,7 @@ impl Disk for NullDisk {
         requires { length from.now ≡ (shown_of self.old).page_len }
         ensures always { IsErr result }
         ensures counted { self.new.faults ≡ bumped self.old.faults }
-        ensures faults { self.old.faults ≤ self.new.faults }
+        ensures rose { Rose self.old.faults self.new.faults }
     {
         self.refuse()
     }
@@ -73,7 +71,7 @@ impl Disk for NullDisk {
     fn clear(&mut self, _file: u32) -> Result<(), Failed>
         ensures always { IsErr result }
         ensures counted { self.new.faults ≡ bumped self.old.faults }
-        ensures faults { self.old.faults ≤ self.new.faults }
+        ensures rose { Rose self.old.faults self.new.faults }
     {
         self.refuse()
     }

@@ -19,8 +19,7 @@ pub trait Sink: Drop {
         ensures ok { IfOk result (λ n. (h : List ℕ) → holds self.old h → holds self.new (h ++ take n from.now)) }
         ensures err { OnErr result ((h : List ℕ) → holds self.old h → holds self.new h) }
         ensures cause { OnErr result (Rose (faults self.old) (faults self.new)) }
-        ensures no_fault { OnOk result (faults self.new ≡ faults self.old) }
-        ensures faults { faults self.old ≤ faults self.new };
+        ensures no_fault { OnOk result (faults self.new ≡ faults self.old) };
 }
 
 /// Writes all the bytes, by as many calls as it takes. It ends at the first failure: then a prefix of them was written.
@@ -29,7 +28,6 @@ pub fn write_all<W: Sink>(sink: &mut W, bytes: &[u8]) -> Result<(), Failed>
     ensures err { OnErr result ((h : List ℕ) → W.holds sink.old h → (n : ℕ) × W.holds sink.new (h ++ take n bytes.now)) }
     ensures cause { OnErr result (Rose (W.faults sink.old) (W.faults sink.new)) }
     ensures no_fault { OnOk result (W.faults sink.new ≡ W.faults sink.old) }
-    ensures faults { W.faults sink.old ≤ W.faults sink.new }
 {
     let mut done = 0;
     while done < bytes.len() {

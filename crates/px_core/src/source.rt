@@ -21,6 +21,5 @@ pub trait Source: Drop {
         ensures end { 0 < length into.new → IfOk result (λ n. n ≡ 0 → (l : List ℕ) → left self.old l → l ≡ []) }
         ensures err { OnErr result ((l : List ℕ) → left self.old l → left self.new l) }
         ensures cause { OnErr result (Rose (faults self.old) (faults self.new)) }
-        ensures no_fault { OnOk result (faults self.new ≡ faults self.old) }
-        ensures faults { faults self.old ≤ faults self.new };
+        ensures no_fault { OnOk result (faults self.new ≡ faults self.old) };
 }

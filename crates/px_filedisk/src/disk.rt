@@ -1,8 +1,8 @@
 // A disk of real files in a folder, which tells nothing of what they hold.
 ghost use Rattle.std.specs.Prelude.{◌≡◌, ◌≢◌, ◌<◌, ◌≤◌, ◌↔◌, ◌+◌, ◌*◌, ◌^◌, ℕ, List, [], length, Some, IfOk, IfSome, IsOk, OnErr, OnOk};
 ghost use Rattle.std.specs.Option.{option_map};
-ghost use Rattle.px_core.specs.Counts.{Rose, bumped};
-ghost use Rattle.px_core.specs.Shown.{Gives, HasRoom, Touches, told_if, written};
+ghost use Rattle.px_core.specs.Counts.{bumped};
+ghost use Rattle.px_core.specs.Shown.{Gives, HasRoom, NoFile, Only, Started, Stopped, Unstarted, Worked, told_if, written};
 ghost use Rattle.px_filedisk.specs.Block.{HasPage, IsPartlyPut, with_page};
 ghost use Rattle.px_filedisk.specs.Disk.{counts_of, shown_of};
 
@@ -72,14 +72,8 @@ impl<F: Files> Disk for FileDisk<F> {
 
     /// Makes the folder where it is missing, and removes each file in it whose name is `f` and digits. After `Failed` the page length is as before.
     fn start(&mut self, frame_bytes: u32) -> Result<(), Failed>
-        ensures empty { OnOk result ((f : ℕ) → (shown_of self.new).files f ≡ told_if (shown_of self.new).tells []) }
-        ensures page_len { OnOk result ((shown_of self.new).page_len ≡ frame_bytes) }
-        ensures tells { (shown_of self.new).tells ≡ (shown_of self.old).tells }
-        ensures faults { (shown_of self.old).faults ≤ (shown_of self.new).faults }
-        ensures failed { OnErr result (Rose (shown_of self.old).faults (shown_of self.new).faults) }
-        ensures no_fault { OnOk result ((shown_of self.new).faults ≡ (shown_of self.old).faults) }
-        ensures reads { (shown_of self.new).reads ≡ (shown_of self.old).reads }
-        ensures writes { (shown_of self.new).writes ≡ (shown_of self.old).writes }
+        ensures ok { OnOk result (Started frame_bytes (shown_of self.old) (shown_of self.new)) }
+        ensures err { OnErr result (Unstarted (shown_of self.old) (shown_of self.new)) }
 
         ensures after { OnOk result (counts_of self.new ≡ record (counts_of self.old) { page_len = frame_bytes }) }
         ensures bytes { OnOk result ((n : ℕ) → F.bytes self.new.files n ≡ option_map (λ _. []) (F.bytes self.old.files n)) }
@@ -99,13 +93,8 @@ impl<F: Files> Disk for FileDisk<F> {
     fn read(&mut self, file: u32, page: u64, into: &mut [u8]) -> Result<(), Failed>
         requires { length into.old ≡ (shown_of self.old).page_len }
         ensures page { OnOk result (IfSome ((shown_of self.old).files file) (Gives page into.new)) }
-        ensures same { OnOk result ((shown_of self.new).files file ≡ (shown_of self.old).files file) }
-        ensures touches { Touches (λ f. f ≡ file) (shown_of self.old) (shown_of self.new) }
-        ensures failed { OnErr result (Rose (shown_of self.old).faults (shown_of self.new).faults) }
-        ensures no_fault { OnOk result ((shown_of self.new).faults ≡ (shown_of self.old).faults) }
-        ensures reads { OnOk result ((shown_of self.new).reads ≡ bumped (shown_of self.old).reads) }
-        ensures reads_err { OnErr result ((shown_of self.new).reads ≡ (shown_of self.old).reads) }
-        ensures writes { (shown_of self.new).writes ≡ (shown_of self.old).writes }
+        ensures ok { OnOk result (Worked NoFile 1 0 (shown_of self.old) (shown_of self.new)) }
+        ensures err { OnErr result (Stopped (Only file) 0 0 (shown_of self.old) (shown_of self.new)) }
 
         ensures after { OnOk result (counts_of self.new ≡ record (counts_of self.old) { reads = bumped self.old.reads }) }
         ensures block { OnOk result (IfSome (F.bytes self.old.files file) (HasPage file page into.new)) }
@@ -127,12 +116,8 @@ impl<F: Files> Disk for FileDisk<F> {
         requires { length from.now ≡ (shown_of self.old).page_len }
         ensures page { OnOk result ((shown_of self.new).files file ≡ option_map (written page from.now) ((shown_of self.old).files file)) }
         ensures limit { OnOk result (IfSome ((shown_of self.old).files file) (HasRoom page)) }
-        ensures touches { Touches (λ f. f ≡ file) (shown_of self.old) (shown_of self.new) }
-        ensures failed { OnErr result (Rose (shown_of self.old).faults (shown_of self.new).faults) }
-        ensures no_fault { OnOk result ((shown_of self.new).faults ≡ (shown_of self.old).faults) }
-        ensures reads { (shown_of self.new).reads ≡ (shown_of self.old).reads }
-        ensures writes { OnOk result ((shown_of self.new).writes ≡ bumped (shown_of self.old).writes) }
-        ensures writes_err { OnErr result ((shown_of self.new).writes ≡ (shown_of self.old).writes) }
+        ensures ok { OnOk result (Worked (Only file) 0 1 (shown_of self.old) (shown_of self.new)) }
+        ensures err { OnErr result (Stopped (Only file) 0 0 (shown_of self.old) (shown_of self.new)) }
 
         ensures after { OnOk result (counts_of self.new ≡ record (counts_of self.old) { writes = bumped self.old.writes }) }
         ensures block { OnOk result (F.bytes self.new.files file ≡ option_map (with_page file page from.now) (F.bytes self.old.files file)) }
@@ -152,11 +137,8 @@ impl<F: Files> Disk for FileDisk<F> {
 
     fn clear(&mut self, file: u32) -> Result<(), Failed>
         ensures empty { OnOk result ((shown_of self.new).files file ≡ told_if (shown_of self.new).tells []) }
-        ensures touches { Touches (λ f. f ≡ file) (shown_of self.old) (shown_of self.new) }
-        ensures failed { OnErr result (Rose (shown_of self.old).faults (shown_of self.new).faults) }
-        ensures no_fault { OnOk result ((shown_of self.new).faults ≡ (shown_of self.old).faults) }
-        ensures reads { (shown_of self.new).reads ≡ (shown_of self.old).reads }
-        ensures writes { (shown_of self.new).writes ≡ (shown_of self.old).writes }
+        ensures ok { OnOk result (Worked (Only file) 0 0 (shown_of self.old) (shown_of self.new)) }
+        ensures err { OnErr result (Stopped (Only file) 0 0 (shown_of self.old) (shown_of self.new)) }
 
         ensures after { OnOk result (counts_of self.new ≡ counts_of self.old) }
         ensures cleared { OnOk result (F.bytes self.new.files file ≡ option_map (λ _. []) (F.bytes self.old.files file)) }

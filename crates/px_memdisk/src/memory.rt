@@ -1,8 +1,7 @@
 // A disk in memory, of which some calls fail.
-ghost use Rattle.std.specs.Prelude.{◌≡◌, ◌≤◌, ◌⊎◌, ◌↔◌, ℕ, [], length, OnOk, OnErr, IsErr, IfOk, IfSome};
+ghost use Rattle.std.specs.Prelude.{◌≡◌, ◌⊎◌, ◌↔◌, ℕ, [], length, OnOk, OnErr, IsErr, IfOk, IfSome};
 ghost use Rattle.std.specs.Option.{option_map};
-ghost use Rattle.px_core.specs.Counts.{Rose, bumped};
-ghost use Rattle.px_core.specs.Shown.{Touches, Gives, HasRoom, written, told_if};
+ghost use Rattle.px_core.specs.Shown.{Only, NoFile, Worked, Stopped, Started, Unstarted, Gives, HasRoom, written, told_if};
 ghost use Rattle.px_memdisk.specs.Files.{AreLong, IsFull, page_or_zeros, pages_in};
 ghost use Rattle.px_memdisk.specs.Tally.{IsListed, after_call, after_fault, after_no_memory, after_read, after_write};
 
@@ -54,14 +53,8 @@ impl Disk for MemDisk {
 
     /// Fails exactly where the call is listed. Then the files and the page length are as before.
     fn start(&mut self, frame_bytes: u32) -> Result<(), Failed>
-        ensures empty { OnOk result ((f : ℕ) → (shown_of self.new).files f ≡ told_if (shown_of self.new).tells []) }
-        ensures page_len { OnOk result ((shown_of self.new).page_len ≡ frame_bytes) }
-        ensures tells { (shown_of self.new).tells ≡ (shown_of self.old).tells }
-        ensures faults { (shown_of self.old).faults ≤ (shown_of self.new).faults }
-        ensures failed { OnErr result (Rose (shown_of self.old).faults (shown_of self.new).faults) }
-        ensures no_fault { OnOk result ((shown_of self.new).faults ≡ (shown_of self.old).faults) }
-        ensures reads { (shown_of self.new).reads ≡ (shown_of self.old).reads }
-        ensures writes { (shown_of self.new).writes ≡ (shown_of self.old).writes }
+        ensures ok { OnOk result (Started frame_bytes (shown_of self.old) (shown_of self.new)) }
+        ensures err { OnErr result (Unstarted (shown_of self.old) (shown_of self.new)) }
 
         ensures listed { IsErr result ↔ IsListed self.old.tally }
         ensures after { OnOk result (self.new.tally ≡ after_call self.old.tally) }
@@ -78,13 +71,8 @@ impl Disk for MemDisk {
     fn read(&mut self, file: u32, page: u64, into: &mut [u8]) -> Result<(), Failed>
         requires { length into.old ≡ (shown_of self.old).page_len }
         ensures page { OnOk result (IfSome ((shown_of self.old).files file) (Gives page into.new)) }
-        ensures same { OnOk result ((shown_of self.new).files file ≡ (shown_of self.old).files file) }
-        ensures touches { Touches (λ f. f ≡ file) (shown_of self.old) (shown_of self.new) }
-        ensures failed { OnErr result (Rose (shown_of self.old).faults (shown_of self.new).faults) }
-        ensures no_fault { OnOk result ((shown_of self.new).faults ≡ (shown_of self.old).faults) }
-        ensures reads { OnOk result ((shown_of self.new).reads ≡ bumped (shown_of self.old).reads) }
-        ensures reads_err { OnErr result ((shown_of self.new).reads ≡ (shown_of self.old).reads) }
-        ensures writes { (shown_of self.new).writes ≡ (shown_of self.old).writes }
+        ensures ok { OnOk result (Worked NoFile 1 0 (shown_of self.old) (shown_of self.new)) }
+        ensures err { OnErr result (Stopped (Only file) 0 0 (shown_of self.old) (shown_of self.new)) }
 
         ensures listed { IsErr result ↔ IsListed self.old.tally }
         ensures bytes { OnOk result (into.new ≡ page_or_zeros page (length into.old) (pages_in self.old.files file)) }
@@ -105,12 +93,8 @@ impl Disk for MemDisk {
         requires { length from.now ≡ (shown_of self.old).page_len }
         ensures page { OnOk result ((shown_of self.new).files file ≡ option_map (written page from.now) ((shown_of self.old).files file)) }
         ensures limit { OnOk result (IfSome ((shown_of self.old).files file) (HasRoom page)) }
-        ensures touches { Touches (λ f. f ≡ file) (shown_of self.old) (shown_of self.new) }
-        ensures failed { OnErr result (Rose (shown_of self.old).faults (shown_of self.new).faults) }
-        ensures no_fault { OnOk result ((shown_of self.new).faults ≡ (shown_of self.old).faults) }
-        ensures reads { (shown_of self.new).reads ≡ (shown_of self.old).reads }
-        ensures writes { OnOk result ((shown_of self.new).writes ≡ bumped (shown_of self.old).writes) }
-        ensures writes_err { OnErr result ((shown_of self.new).writes ≡ (shown_of self.old).writes) }
+        ensures ok { OnOk result (Worked (Only file) 0 1 (shown_of self.old) (shown_of self.new)) }
+        ensures err { OnErr result (Stopped (Only file) 0 0 (shown_of self.old) (shown_of self.new)) }
 
         ensures after { OnOk result (self.new.tally ≡ after_write (after_call self.old.tally)) }
         ensures kept { OnErr result (pages_in self.new.files file ≡ pages_in self.old.files file) }
@@ -132,11 +116,8 @@ impl Disk for MemDisk {
     /// Fails exactly where the call is listed. Then the file is as before.
     fn clear(&mut self, file: u32) -> Result<(), Failed>
         ensures empty { OnOk result ((shown_of self.new).files file ≡ told_if (shown_of self.new).tells []) }
-        ensures touches { Touches (λ f. f ≡ file) (shown_of self.old) (shown_of self.new) }
-        ensures failed { OnErr result (Rose (shown_of self.old).faults (shown_of self.new).faults) }
-        ensures no_fault { OnOk result ((shown_of self.new).faults ≡ (shown_of self.old).faults) }
-        ensures reads { (shown_of self.new).reads ≡ (shown_of self.old).reads }
-        ensures writes { (shown_of self.new).writes ≡ (shown_of self.old).writes }
+        ensures ok { OnOk result (Worked (Only file) 0 0 (shown_of self.old) (shown_of self.new)) }
+        ensures err { OnErr result (Stopped (Only file) 0 0 (shown_of self.old) (shown_of self.new)) }
 
         ensures listed { IsErr result ↔ IsListed self.old.tally }
         ensures after { OnOk result (self.new.tally ≡ after_call self.old.tally) }

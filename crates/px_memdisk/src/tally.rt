@@ -62,13 +62,15 @@ impl Tally {
     }
 
     pub fn count_read(&mut self)
-        ensures { self.new ≡ after_read self.old }
+        ensures value { self.new ≡ after_read self.old }
+        ensures grows { self.old.reads ≤ self.new.reads }
     {
         self.reads = self.reads.saturating_add(1);
     }
 
     pub fn count_write(&mut self)
-        ensures { self.new ≡ after_write self.old }
+        ensures value { self.new ≡ after_write self.old }
+        ensures grows { self.old.writes ≤ self.new.writes }
     {
         self.writes = self.writes.saturating_add(1);
     }

@@ -58,7 +58,6 @@ impl<R: Read + Drop> Source for Input<R> {
         ensures err { OnErr result ((l : List ℕ) → R.remaining self.old.reader ≡ Some l → R.remaining self.new.reader ≡ Some l) }
         ensures cause { OnErr result (Rose self.old.faults self.new.faults) }
         ensures no_fault { OnOk result (self.new.faults ≡ self.old.faults) }
-        ensures faults { self.old.faults ≤ self.new.faults }
 
         ensures counted { OnErr result (self.new.faults ≡ bumped self.old.faults) }
     {

@@ -57,7 +57,6 @@ impl<W: Write + Drop> Sink for Output<W> {
         ensures err { OnErr result ((h : List ℕ) → W.contents self.old.writer ≡ Some h → W.contents self.new.writer ≡ Some h) }
         ensures cause { OnErr result (Rose self.old.faults self.new.faults) }
         ensures no_fault { OnOk result (self.new.faults ≡ self.old.faults) }
-        ensures faults { self.old.faults ≤ self.new.faults }
 
         ensures counted { OnErr result (self.new.faults ≡ bumped self.old.faults) }
     {
