@@ -1,7 +1,7 @@
 -- A slot of a bank, and its slot table.
 use Rattle.std.specs.Prelude.{◌≡◌, ℕ, Option, is_some, IfSome, length}
 use Rattle.px_frames.specs.Banks.{SlotView}
-use Rattle.px_frames.specs.Tables.{SlotsView}
+use Rattle.px_frames.specs.Tables.{TableView}
 use Rattle.px_frames.specs.declared.bank.Slot.{Slot}
 
 -- the slot as a contract sees it
@@ -15,5 +15,5 @@ IsSlot len slot =
     (λ share. (share.size ≡ slot.size) × (share.frame_len ≡ len) × (length share.frames ≡ slot.size))
 
 -- a slot table that is home has this capacity
-abbrev pub IsTableOf : ℕ → Option SlotsView → Type 0
+abbrev pub IsTableOf : ℕ → Option TableView → Type 0
 IsTableOf entries table = IfSome table (λ t. t.capacity ≡ entries)

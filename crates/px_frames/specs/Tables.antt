@@ -9,7 +9,7 @@ pub record EntryView : Type 0 where
   pub len : ℕ
 
 -- a table as the most entries that it takes, and its entries in order
-pub record SlotsView : Type 0 where
+pub record TableView : Type 0 where
   pub capacity : ℕ
   pub entries : List EntryView
 
@@ -22,5 +22,5 @@ abbrev pub parts : EntryView → ℕ × ℕ × ℕ × ℕ
 parts entry = (entry.vid, entry.frame, entry.at, entry.len)
 
 -- what holds of every table
-pub record IsTable (table : SlotsView) : Type 0 where
+pub record IsTable (table : TableView) : Type 0 where
   pub within : length table.entries ≤ table.capacity

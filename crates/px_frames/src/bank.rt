@@ -1,6 +1,7 @@
 // The bank: all frames of a job, in slots that are lent whole and given back whole, and one slot table, lent likewise.
 ghost use Rattle.std.specs.Prelude.{◌≡◌, ◌≤◌, ◌<◌, [], true, false, IsTrue, length, map, sum, IfOk};
 ghost use Rattle.px_frames.specs.Banks.{IsFrameLen, slot_home, is_home, size_of, with_home, with_table};
+ghost use Rattle.px_frames.specs.Shares.{IsShare};
 
 use crate::{Share, SlotShare};
 use arrayvec::ArrayVec;
@@ -86,6 +87,7 @@ impl Bank {
         ensures size { result.size ≡ size_of self.old slot }
         ensures frame_len { result.frame_len ≡ self.old.frame_len }
         ensures full { length result.frames ≡ result.size }
+        ensures share { IsShare result }
         ensures out { self.new ≡ with_home self.old slot false }
     {
         match self.slots[slot as usize].share.take() {

@@ -125,26 +125,23 @@ fn write_first_frame(share: &mut Share, byte: u8)
 }
 
 #[test]
-fn a_wide_append_changes_nothing(rt: HostRuntime) -> Result<(), Fail> {
-    let mut buf = Buf::over(Frame::new(rt.alloc(), 8)?, 3);
-    buf.set(b"ab")?;
-    assert_eq!(rt; buf.append(b"cd"), Err(Wide));
-    assert_eq!(rt; buf.bytes(), b"ab".as_slice());
-    Ok(())
-}
-
-#[test]
 fn a_buffer_takes_up_to_its_limit(rt: HostRuntime) -> Result<(), Fail> {
     let mut buf = Buf::over(Frame::new(rt.alloc(), 8)?, 3);
-    for (bytes, fits) in [
-        (b"".as_slice(), true),
-        (b"ab".as_slice(), true),
-        (b"abc".as_slice(), true),
-        (b"abcd".as_slice(), false),
+    for (first, more, held) in [
+        (b"".as_slice(), b"".as_slice(), b"".as_slice()),
+        (b"ab", b"c", b"abc"),
+        (b"ab", b"cd", b"ab"),
+        (b"abcd", b"abc", b"abc"),
+        (b"abcd", b"abcd", b""),
     ] {
-        assert_eq!(rt; buf.set(bytes).is_ok(), fits);
         buf.clear();
-        assert_eq!(rt; buf.append(bytes).is_ok(), fits);
+        assert_eq!(rt; buf.set(first).is_ok(), first.len() <= 3);
+        assert_eq!(rt; buf.append(more).is_ok(), held.ends_with(more));
+        assert_eq!(rt; buf.bytes(), held);
+        if !held.is_empty() {
+            write_first(&mut buf, b'z');
+            assert_eq!(rt; (buf.bytes()[0], &buf.bytes()[1..]), (b'z', &held[1..]));
+        }
     }
     assert_eq!(rt; buf.close().bytes().len(), 8);
     Ok(())
@@ -165,19 +162,23 @@ fn slots_are_lent_and_given_back(rt: HostRuntime) -> Result<(), Fail> {
 }
 
 #[test]
-fn a_write_reaches_the_bytes(rt: HostRuntime) -> Result<(), Fail> {
-    let mut buf = Buf::over(Frame::new(rt.alloc(), 8)?, 8);
-    buf.set(b"ab")?;
-    write_first(&mut buf, b'c');
-    assert_eq!(rt; buf.bytes(), b"cb".as_slice());
-    Ok(())
-}
-
-#[test]
 fn a_write_reaches_one_frame(rt: HostRuntime) -> Result<(), Fail> {
     let mut share = Share::full(rt.alloc(), 2, 256)?;
     write_first_frame(&mut share, 7);
     assert_eq!(rt; (share.frame(0)[0], share.frame(1)[0]), (7, 0));
+    Ok(())
+}
+
+#[test]
+fn a_range_is_copied_to_another_frame(rt: HostRuntime) -> Result<(), Fail> {
+    let mut share = Share::full(rt.alloc(), 3, 256)?;
+    write_first_frame(&mut share, 7);
+    share.copy_range(0, 0, 2, 1, 254);
+    share.copy_range(1, 253, 3, 2, 0);
+    assert_eq!(rt; &share.frame(1)[252..], [0, 0, 7, 0].as_slice());
+    assert_eq!(rt; &share.frame(2)[..4], [0, 7, 0, 0].as_slice());
+    share.copy(1, 2);
+    assert_eq!(rt; share.frame(2), share.frame(1));
     Ok(())
 }
 

@@ -32,7 +32,7 @@ next_entry (suc left) at len w page rest is some room written least =
     ∙ ap (λ (b : List ℕ). entry (big_number 8 rest) (get_or rest 8 0) (take len (drop (at + 13) page)) ∷ entries_in left b) after
     ∙ ap (λ (m : ℕ). entry (big_number 8 rest) (get_or rest 8 0) (take len (drop (at + 13) page)) ∷ entries_in m (drop (at + 13 + len) page)) n
 
-length-body_at : (bytes : List ℕ) → 13 ≤ length bytes → length (take (len_at bytes) (drop 13 bytes)) ≡ len_at bytes
+pub length-body_at : (bytes : List ℕ) → 13 ≤ length bytes → length (take (len_at bytes) (drop 13 bytes)) ≡ len_at bytes
 length-body_at bytes room = length-take-le (len_at bytes) (drop 13 bytes) (omega (arith, length-drop 13 bytes))
 
 -- what is found has room in the bytes

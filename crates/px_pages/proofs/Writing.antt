@@ -65,14 +65,14 @@ module _ (len k l : ℕ) (es : List Entry) (fits : used_of es ≤ len) (small : 
   link_read : link_of (page_of len k l es) ≡ l
   link_read = big_number-reads_back 8 l (zeros 12 ++ bytes_of es ++ zeros (len - used_of es)) link
 
-  tuples_read : tuples_of (page_of len k l es) ≡ es
+  pub tuples_read : tuples_of (page_of len k l es) ≡ es
   tuples_read = ap (λ (n : ℕ). entries_in n (bytes_of es ++ zeros (len - used_of es))) count_read ∙ entries_read es (zeros (len - used_of es)) all
 
-  length-page_of : length (page_of len k l es) ≡ len
+  pub length-page_of : length (page_of len k l es) ≡ len
   length-page_of = omega (arith, length-append (bytes_of es) (zeros (len - used_of es)), length-replicate {A = ℕ} (len - used_of es) 0)
 
   -- a page that is this one, and where its writer stands
-  made_of : (w : PageWriterView) (page : List ℕ) → page ≡ page_of len k l es → 256 ≤ len → w.count ≡ length es → w.used ≡ used_of es → w.len ≡ len
+  pub made_of : (w : PageWriterView) (page : List ℕ) → page ≡ page_of len k l es → 256 ≤ len → w.count ≡ length es → w.used ≡ used_of es → w.len ≡ len
       → IsMade w k l es page
   made_of w page is large count used same = record {
     bytes = is ∙ ap (λ (n : ℕ). page_of n k l es) (sym same);
@@ -87,7 +87,7 @@ module _ (len k l : ℕ) (es : List Entry) (fits : used_of es ≤ len) (small : 
 
 -- a page that was made is told by what a caller sees of it
 module _ (w : PageWriterView) (k l : ℕ) (es : List Entry) (page : List ℕ) (made : IsMade w k l es page) where
-  made_kind : kind_of page ≡ k
+  pub made_kind : kind_of page ≡ k
   made_kind = ap kind_of made.bytes
 
   pub made_link : link_of page ≡ l

@@ -8,9 +8,13 @@ use Rattle.px_pages.specs.declared.reader.Tuple.{Tuple}
 abbrev pub IsPageLen : ℕ → Type 0
 IsPageLen n = (256 ≤ n) × (n ≤ 1048576)
 
+-- the bytes of a page's header
+abbrev pub header_len : ℕ
+header_len = 32
+
 -- half of what a page has for tuples
 abbrev pub room_of : ℕ → ℕ
-room_of page_len = page_len / 2 - 16
+room_of page_len = page_len / 2 - header_len / 2
 
 -- the fields of a page's header
 abbrev pub kind_of : List ℕ → ℕ
@@ -19,16 +23,19 @@ kind_of page = slice_index page 0
 abbrev pub count_of : List ℕ → ℕ
 count_of page = big_number 4 (drop 4 page)
 
+abbrev pub used_at : List ℕ → ℕ
+used_at page = big_number 4 (drop 8 page)
+
 abbrev pub link_of : List ℕ → ℕ
 link_of page = big_number 8 (drop 12 page)
 
 -- the tuples that a reader finds in any page
 abbrev pub tuples_of : List ℕ → List Entry
-tuples_of page = entries_in (count_of page) (drop 32 page)
+tuples_of page = entries_in (count_of page) (drop header_len page)
 
 -- the bytes that hold something, header included
 abbrev pub used_of : List Entry → ℕ
-used_of es = 32 + length (bytes_of es)
+used_of es = header_len + length (bytes_of es)
 
 abbrev pub zeros : ℕ → List ℕ
 zeros n = replicate {A = ℕ} n 0
@@ -71,3 +78,7 @@ left_of r page = entries_in r.left (drop r.at page)
 -- the tuple that was given
 abbrev pub entry_of : Tuple → List ℕ → Entry
 entry_of t page = record { key = t.key; tag = t.tag; body = take t.len (drop t.at page) }
+
+-- where a writer stands that wrote these tuples into a page of this length
+abbrev pub writer_of : ℕ → List Entry → PageWriterView
+writer_of page_len es = record { count = length es; used = used_of es; len = page_len }

@@ -10,7 +10,7 @@
 // The tuples come after it (writer.rt), and the rest of the page is zero.
 ghost use Rattle.std.specs.Prelude.{◌≡◌, ◌≤◌, ◌++◌, length, take, drop, slice_set};
 ghost use Rattle.byteorder.specs.Endian.{big_bytes};
-ghost use Rattle.px_pages.specs.Page.{IsPageLen, IsWritten, PageWriterView, tuples_of, kind_of, count_of, link_of};
+ghost use Rattle.px_pages.specs.Page.{IsPageLen, IsWritten, PageWriterView, tuples_of, kind_of, count_of, used_at, link_of};
 
 use byteorder::{BigEndian, ByteOrder};
 
@@ -39,6 +39,14 @@ pub fn count(page: &[u8]) -> u32
     ensures { result ≡ count_of page.now }
 {
     BigEndian::read_u32(&page[COUNT..])
+}
+
+/// The bytes of the page that hold something, this header included, as it says.
+pub fn used(page: &[u8]) -> u32
+    requires { IsPageLen (length page.now) }
+    ensures { result ≡ used_at page.now }
+{
+    BigEndian::read_u32(&page[USED..])
 }
 
 /// The number that was set as the page's link: that of a page plus one, or 0 for none.

@@ -1,13 +1,19 @@
 //! Pages of tuples: a page has a header and tuples of a key, a tag and a body.
 #![tactic(auto)]
 
+mod edit;
 mod header;
+mod inner;
 pub mod kinds;
+mod place;
 mod reader;
 pub mod tags;
 mod writer;
 
-pub use header::{count, kind, link, set_link};
+pub use edit::{insert, keep_back, keep_front, remove, replace};
+pub use header::{count, kind, link, set_link, used};
+pub use inner::{Child, child_at, child_count, children_to};
+pub use place::{Place, find, find_end};
 pub use reader::{PageReader, Tuple};
 pub use writer::{PageWriter, room};
 

@@ -29,7 +29,7 @@ pub fn room(frame_bytes: u32) -> u32
     ensures value { result ≡ room_of frame_bytes }
     ensures two { (a b : ℕ) → 13 + a ≤ result → 13 + b ≤ result → 32 + (13 + a) + 13 + b ≤ frame_bytes }
 {
-    frame_bytes / 2 - 16
+    frame_bytes / 2 - HEADER as u32 / 2
 }
 
 /// Where a writer stands in its page. It keeps no borrow of the page: each call is handed it.
@@ -97,7 +97,7 @@ impl PageWriter {
 }
 
 // Writes a tuple at the front.
-fn put_entry(out: &mut [u8], key: Vid, tag: u8, body: &[u8])
+pub(crate) fn put_entry(out: &mut [u8], key: Vid, tag: u8, body: &[u8])
     requires room { 13 + length body.now ≤ length out.old }
     requires short { length body.now < 2 ^ 32 }
     ensures { out.new ≡ entry_bytes (entry key tag body.now) ++ drop (13 + length body.now) out.old }
