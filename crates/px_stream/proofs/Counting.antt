@@ -1,6 +1,6 @@
 -- Counts that grow by so many.
 use Rattle.std.proofs.Common.{◌≡◌, ℕ, zero, suc, ◌+◌, ◌-◌, ◌≤◌, ◌<◌, ◌^◌, min, refl, sym, ◌∙◌, ap, arith}
-use Rattle.px_stream.specs.Counts.{bumped_by}
+use Rattle.px_core.specs.Counts.{bumped_by}
 
 some_more : (k n : ℕ) → 0 < k → bumped_by k n ≡ min (n + k) (2 ^ 64 - 1)
 some_more zero n some = omega (arith, some)
@@ -16,6 +16,10 @@ pub bumped_by-then : (j k n : ℕ) → bumped_by j (bumped_by k n) ≡ bumped_by
 bumped_by-then zero k n = let e : k + 0 ≡ k = omega arith in ap (λ (m : ℕ). bumped_by m n) (sym e)
 bumped_by-then (suc j) zero n = omega (arith, some_more (0 + suc j) n (omega arith))
 bumped_by-then (suc j) (suc k) n = omega (arith, some_more (suc k + suc j) n (omega arith))
+
+-- on from one place to another
+pub bumped_by-on : (j k n : ℕ) → k ≤ j → bumped_by (j - k) (bumped_by k n) ≡ bumped_by j n
+bumped_by-on j k n on = let e : k + (j - k) ≡ j = omega (arith, on) in bumped_by-then (j - k) k n ∙ ap (λ (m : ℕ). bumped_by m n) e
 
 -- the writes since the start are the pages, and stay so where both grow by as many
 pub writes_are_pages : (k start pages writes pages' writes' : ℕ) → pages' ≡ bumped_by k pages → writes' ≡ bumped_by k writes → writes ≡ bumped_by pages start

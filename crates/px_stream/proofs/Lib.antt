@@ -1,4 +1,7 @@
-pub mod Kept
 pub mod Counting
-mod Writing
-mod Reading
+pub mod Kept
+pub mod Merging
+pub mod Order
+pub mod Places
+pub mod Reading
+pub mod Writing

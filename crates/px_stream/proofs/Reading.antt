@@ -1,11 +1,11 @@
 -- Tuples are given, page by page.
-use Rattle.std.proofs.Common.{◌≡◌, ℕ, zero, suc, ◌+◌, ◌<◌, ◌≤◌, List, [], ◌∷◌, ◌++◌, length, drop, sym, ◌∙◌, ap, subst, arith, refl}
+use Rattle.std.proofs.Common.{◌≡◌, ℕ, zero, suc, ◌+◌, ◌<◌, ◌≤◌, List, [], ◌∷◌, ◌++◌, length, take, drop, sym, ◌∙◌, ap, subst, arith, refl}
 use Rattle.std.proofs.lemmas.Bool.Decides.{nat_tests}
-use Rattle.std.proofs.lemmas.List.{drop_all, length-drop}
-use Rattle.std.specs.Prelude.{Option, Some, None, IfSome, IfNone, OnSome, ⊤}
+use Rattle.std.proofs.lemmas.List.{drop_all, length-drop, length-take}
+use Rattle.std.specs.Prelude.{slice_get, Option, Some, None, IfSome, IfNone, OnSome, ⊤}
 use Rattle.px_core.specs.Shown.{Shown, Touches, NoFile, Gives}
 use Rattle.px_core.specs.Told.{Tells}
-use Rattle.px_core.proofs.Pages.{drop_first}
+use Rattle.px_core.proofs.Pages.{drop_first, get_first}
 use Rattle.px_core.proofs.Telling.{tells_kept}
 use Rattle.px_pages.specs.Entry.{Entry, entry, entries_in}
 use Rattle.px_pages.specs.Page.{PageReaderView, tuples_of, room_of}
@@ -20,14 +20,17 @@ view_of file page pages page_len here = record { file = file; page = page; pages
 pub turned : (a b : Shown) (r v : ReaderView) (frame : List ℕ) (l : List Entry) → ((ps : List (List ℕ)) → Tells a r.file ps → Gives r.page frame ps) → Touches NoFile a b
     → r.page < r.pages → r.here ≡ [] → v.file ≡ r.file → v.page ≡ r.page + 1 → v.pages ≡ r.pages → v.here ≡ tuples_of frame → ToGive a r l → ToGive b v l
 turned a b r v frame l gives t more none file page pages here k =
-    let ps = k.told in
-    let front : drop r.page ps ≡ frame ∷ drop (r.page + 1) ps = drop_first r.page frame ps (gives ps k.tells (omega (arith, k.end))) in
+    let all = k.told in
+    let ps : List (List ℕ) = take r.pages all in
+    let at : slice_get ps r.page ≡ Some frame = get_first r.pages r.page frame all more (gives all k.tells (omega (arith, k.end, more))) in
+    let front : drop r.page ps ≡ frame ∷ drop (r.page + 1) ps = drop_first r.page frame ps at in
     record {
-      told = ps;
-      tells = subst (λ (f : ℕ). Tells b f ps) (sym file) (tells_kept NoFile a b r.file ps t (λ h. h) k.tells);
-      end = k.end ∙ sym pages;
+      told = all;
+      tells = subst (λ (f : ℕ). Tells b f all) (sym file) (tells_kept NoFile a b r.file all t (λ h. h) k.tells);
+      end = omega (arith, k.end, pages);
       tuples = k.tuples ∙ ap (λ (h : List Entry). h ++ all_tuples (drop r.page ps)) none ∙ ap all_tuples front
-          ∙ ap (λ (n : ℕ). tuples_of frame ++ all_tuples (drop n ps)) (sym page) ∙ ap (λ (h : List Entry). h ++ all_tuples (drop v.page ps)) (sym here);
+          ∙ ap (λ (n : ℕ). tuples_of frame ++ all_tuples (drop n ps)) (sym page) ∙ ap (λ (h : List Entry). h ++ all_tuples (drop v.page ps)) (sym here)
+          ∙ ap (λ (n : ℕ). v.here ++ all_tuples (drop v.page (take n all))) (sym pages);
       fit = subst (λ (n : ℕ). AllFit n l) (sym t.page_len) k.fit;
     }
 
@@ -35,8 +38,10 @@ turned a b r v frame l gives t more none file page pages here k =
 pub one_given : (a : Shown) (r v : ReaderView) (e : Entry) (l : List Entry) → r.here ≡ e ∷ v.here → v.file ≡ r.file → v.page ≡ r.page → v.pages ≡ r.pages → ToGive a r l
     → Leads e l (ToGive a v)
 one_given a r v e l first file page pages k =
-    let rest : List Entry = v.here ++ all_tuples (drop v.page k.told) in
-    let is : l ≡ e ∷ rest = k.tuples ∙ ap (λ (h : List Entry). h ++ all_tuples (drop r.page k.told)) first ∙ ap (λ (n : ℕ). e ∷ (v.here ++ all_tuples (drop n k.told))) (sym page) in
+    let rest : List Entry = v.here ++ all_tuples (drop v.page (take v.pages k.told)) in
+    let is : l ≡ e ∷ rest =
+    k.tuples ∙ ap (λ (h : List Entry). h ++ all_tuples (drop r.page (take r.pages k.told))) first ∙ ap (λ (n : ℕ). e ∷ (v.here ++ all_tuples (drop n (take r.pages k.told)))) (sym page)
+    ∙ ap (λ (n : ℕ). e ∷ (v.here ++ all_tuples (drop v.page (take n k.told)))) (sym pages) in
     let fit : AllFit a.page_len (e ∷ rest) = subst (AllFit a.page_len) is k.fit in
     record {
       rest = rest;
@@ -44,7 +49,7 @@ one_given a r v e l first file page pages k =
       after = record {
         told = k.told;
         tells = subst (λ (f : ℕ). Tells a f k.told) (sym file) k.tells;
-        end = k.end ∙ sym pages;
+        end = omega (arith, k.end, pages);
         tuples = refl;
         fit = fit.1;
       };
@@ -53,8 +58,8 @@ one_given a r v e l first file page pages k =
 -- and it had room in any page
 pub one_fits : (a : Shown) (r : ReaderView) (e : Entry) (rest l : List Entry) → r.here ≡ e ∷ rest → ToGive a r l → 13 + length e.body ≤ room_of a.page_len
 one_fits a r e rest l first k =
-    let fit : AllFit a.page_len (e ∷ (rest ++ all_tuples (drop r.page k.told))) =
-    subst (AllFit a.page_len) (k.tuples ∙ ap (λ (h : List Entry). h ++ all_tuples (drop r.page k.told)) first) k.fit in
+    let more : List Entry = all_tuples (drop r.page (take r.pages k.told)) in
+    let fit : AllFit a.page_len (e ∷ (rest ++ more)) = subst (AllFit a.page_len) (k.tuples ∙ ap (λ (h : List Entry). h ++ more) first) k.fit in
     fit.0
 
 -- whether none is found depends on the lengths alone
@@ -76,7 +81,8 @@ view_none file page pages r old new len none =
 -- none is left
 pub none_left : (a : Shown) (r : ReaderView) (l : List Entry) → r.here ≡ [] → r.page ≡ r.pages → ToGive a r l → l ≡ []
 none_left a r l none past k =
-    k.tuples ∙ ap (λ (h : List Entry). h ++ all_tuples (drop r.page k.told)) none ∙ ap all_tuples (drop_all r.page k.told (omega (arith, past, k.end)))
+    k.tuples ∙ ap (λ (h : List Entry). h ++ all_tuples (drop r.page (take r.pages k.told))) none
+    ∙ ap all_tuples (drop_all r.page (take r.pages k.told) (omega (arith, past, length-take r.pages k.told)))
 
 -- the first tuple, with its body named by the list
 pub first_is : (xs : List Entry) (key tag : ℕ) (body : List ℕ) (rest : List Entry) → xs ≡ entry key tag body ∷ rest → xs ≡ entry key tag (first_body xs) ∷ rest
@@ -85,8 +91,8 @@ first_is xs key tag body rest e = e ∙ ap (λ (b : List ℕ). entry key tag b �
 -- the head that is shown leads the list
 pub shown_leads : (a : Shown) (r : ReaderView) (h : Head) (l : List Entry) → Shows h r → ToGive a r l → Leads (tuple h (first_body r.here)) l (λ x. ⊤)
 shown_leads a r h l s k = record {
-  rest = s.rest ++ all_tuples (drop r.page k.told);
-  is = k.tuples ∙ ap (λ (x : List Entry). x ++ all_tuples (drop r.page k.told)) s.is;
+  rest = s.rest ++ all_tuples (drop r.page (take r.pages k.told));
+  is = k.tuples ∙ ap (λ (x : List Entry). x ++ all_tuples (drop r.page (take r.pages k.told))) s.is;
   after = tt;
 }
 

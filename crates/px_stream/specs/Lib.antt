@@ -1,3 +1,4 @@
 pub mod Views
 pub mod Counts
 pub mod Stream
+pub mod Merged

@@ -1,5 +1,5 @@
 -- What a stream holds, where its disk tells.
-use Rattle.std.specs.Prelude.{◌≡◌, ◌≤◌, ℕ, ◌+◌, if◌then◌else◌, nat_le, List, [], ◌∷◌, ◌++◌, length, drop}
+use Rattle.std.specs.Prelude.{◌≡◌, ◌≤◌, ℕ, ◌+◌, if◌then◌else◌, nat_le, List, [], ◌∷◌, ◌++◌, length, take, drop}
 use Rattle.px_core.specs.Shown.{Shown}
 use Rattle.px_core.specs.Told.{Tells}
 use Rattle.px_pages.specs.Entry.{Entry, entry}
@@ -22,30 +22,35 @@ abbrev pub AllFit : ℕ → List Entry → Type 0
 AllFit page_len [] = Unit {0}
 AllFit page_len (e ∷ es) = (13 + length e.body ≤ room_of page_len) × AllFit page_len es
 
--- the disk tells, and what the writer took since its start is this list
+-- the disk tells, and what the writer took since it began is this list: on the pages of its file from its first on, and in its frame
 pub record Took (s : Shown) (w : WriterView) (l : List Entry) : Type 0 where
   pub told : List (List ℕ)
   pub tells : Tells s w.file told
   pub end : length told ≡ w.pages
-  pub made : AreStreamPages s.page_len told
-  pub tuples : l ≡ all_tuples told ++ w.here
+  pub within : w.first ≤ w.pages
+  pub made : AreStreamPages s.page_len (drop w.first told)
+  pub tuples : l ≡ all_tuples (drop w.first told) ++ w.here
   pub fit : AllFit s.page_len l
 
--- the disk tells, and the file has so many pages, which hold this list
-pub record Holds (s : Shown) (file pages : ℕ) (l : List Entry) : Type 0 where
+-- the disk tells, and the pages of the file from the first on, up to before the last, hold this list
+pub record Has (s : Shown) (file first last : ℕ) (l : List Entry) : Type 0 where
   pub told : List (List ℕ)
   pub tells : Tells s file told
-  pub end : length told ≡ pages
-  pub made : AreStreamPages s.page_len told
-  pub tuples : l ≡ all_tuples told
+  pub end : last ≤ length told
+  pub made : AreStreamPages s.page_len (drop first (take last told))
+  pub tuples : l ≡ all_tuples (drop first (take last told))
   pub fit : AllFit s.page_len l
+
+-- so many pages of the file, from its front, do
+abbrev pub Holds : Shown → ℕ → ℕ → List Entry → Type 0
+Holds s file pages l = Has s file 0 pages l
 
 -- the disk tells, and what the reader has still to give is this list
 pub record ToGive (s : Shown) (r : ReaderView) (l : List Entry) : Type 0 where
   pub told : List (List ℕ)
   pub tells : Tells s r.file told
-  pub end : length told ≡ r.pages
-  pub tuples : l ≡ r.here ++ all_tuples (drop r.page told)
+  pub end : r.pages ≤ length told
+  pub tuples : l ≡ r.here ++ all_tuples (drop r.page (take r.pages told))
   pub fit : AllFit s.page_len l
 
 -- the list begins with this tuple, and this holds of the rest
@@ -72,7 +77,11 @@ pub record Shows (h : Head) (r : ReaderView) : Type 0 where
   pub rest : List Entry
   pub is : r.here ≡ tuple h (first_body r.here) ∷ rest
 
--- no tuple is left, neither of the page in the frame nor of the stated pages
+-- no tuple is left, neither of the page in the frame nor of the pages to come
 pub record IsOver (r : ReaderView) : Type 0 where
   pub here : r.here ≡ []
   pub page : r.page ≡ r.pages
+
+-- the page of this length and kind, without a link, that holds this one tuple
+unfoldable pub lone_page : ℕ → ℕ → Entry → List ℕ
+lone_page page_len kind e = page_of page_len kind 0 (e ∷ [])

@@ -3,14 +3,15 @@ use Rattle.std.specs.Prelude.{◌≡◌, ℕ, List, [], length, Option, Some, No
 use Rattle.px_pages.specs.Entry.{Entry}
 use Rattle.px_pages.specs.Page.{IsWritten, PageWriterView, PageReaderView, left_of, kind_of, link_of}
 
--- a writer as the file that it writes, how many pages it wrote, their length, and the tuples that it has yet to write
+-- a writer as the file that it writes, the page at which its list begins, the page that it writes next, their length, and the tuples that it has yet to write
 pub record WriterView : Type 0 where
   pub file : ℕ
+  pub first : ℕ
   pub pages : ℕ
   pub page_len : ℕ
   pub here : List Entry
 
--- a reader as the file that it reads, the page that it reads next, how many pages there are, their length, and the tuples left of the page in its frame
+-- a reader as the file that it reads, the page that it reads next, the page that it ends before, their length, and the tuples left of the page in its frame
 pub record ReaderView : Type 0 where
   pub file : ℕ
   pub page : ℕ

@@ -1,11 +1,13 @@
 // The calls of a disk on a frame, with Scratch for their faults.
-ghost use Rattle.std.specs.Prelude.{◌≡◌, ℕ, List, [], length, true, OnOk, OnErr, IfErr};
-ghost use Rattle.px_core.specs.Counts.{Rose, bumped};
-ghost use Rattle.px_core.specs.Shown.{Touches, NoFile, Gives, HasRoom, written};
+ghost use Rattle.std.specs.Prelude.{◌≡◌, ◌≤◌, ◌+◌, ℕ, List, [], length, true, OnOk, OnErr, IfErr};
+ghost use Rattle.std.specs.Option.{option_map};
+ghost use Rattle.px_core.specs.Shown.{Only, NoFile, Worked, StopsAt, Gives, HasRoom, written};
 ghost use Rattle.px_core.specs.Told.{Tells};
-ghost use Rattle.px_pages.specs.Page.{IsPageLen, tuples_of};
+ghost use Rattle.px_pages.specs.Page.{IsPageLen, tuples_of, room_of};
 ghost use Rattle.px_stream.specs.Views.{IsPage};
+ghost use Rattle.px_stream.specs.Stream.{tuple, lone_page};
 
+use crate::Head;
 use px_core::{Disk, Failed, Stop};
 use px_frames::Frame;
 use px_pages::{PageWriter, kinds};
@@ -13,12 +15,8 @@ use px_pages::{PageWriter, kinds};
 // Makes a file empty.
 pub(crate) fn clear_file<D: Disk>(disk: &mut D, file: u32) -> Result<(), Stop>
     ensures empty { OnOk result ((D.shown disk.old).tells ≡ true → Tells (D.shown disk.new) file []) }
-    ensures touches { Touches (λ f. f ≡ file) (D.shown disk.old) (D.shown disk.new) }
-    ensures only { IfErr result (λ e. e ≡ Stop.Scratch) }
-    ensures rose { OnErr result (Rose (D.shown disk.old).faults (D.shown disk.new).faults) }
-    ensures no_fault { OnOk result ((D.shown disk.new).faults ≡ (D.shown disk.old).faults) }
-    ensures reads { (D.shown disk.new).reads ≡ (D.shown disk.old).reads }
-    ensures writes { (D.shown disk.new).writes ≡ (D.shown disk.old).writes }
+    ensures ok { OnOk result (Worked (Only file) 0 0 (D.shown disk.old) (D.shown disk.new)) }
+    ensures err { IfErr result (StopsAt Stop.Scratch (Only file) 0 0 (D.shown disk.old) (D.shown disk.new)) }
 {
     match disk.clear(file) {
         Ok(()) => Ok(()),
@@ -34,15 +32,10 @@ pub(crate) fn write_page<D: Disk>(
     frame: &Frame,
 ) -> Result<(), Stop>
     requires { length frame.now ≡ (D.shown disk.old).page_len }
-    ensures written { OnOk result ((ps : List (List ℕ)) → Tells (D.shown disk.old) file ps → Tells (D.shown disk.new) file (written page frame.now ps)) }
+    ensures written { OnOk result ((D.shown disk.new).files file ≡ option_map (written page frame.now) ((D.shown disk.old).files file)) }
     ensures limit { OnOk result ((ps : List (List ℕ)) → Tells (D.shown disk.old) file ps → HasRoom page ps) }
-    ensures touches { Touches (λ f. f ≡ file) (D.shown disk.old) (D.shown disk.new) }
-    ensures only { IfErr result (λ e. e ≡ Stop.Scratch) }
-    ensures rose { OnErr result (Rose (D.shown disk.old).faults (D.shown disk.new).faults) }
-    ensures no_fault { OnOk result ((D.shown disk.new).faults ≡ (D.shown disk.old).faults) }
-    ensures reads { (D.shown disk.new).reads ≡ (D.shown disk.old).reads }
-    ensures writes { OnOk result ((D.shown disk.new).writes ≡ bumped (D.shown disk.old).writes) }
-    ensures writes_err { OnErr result ((D.shown disk.new).writes ≡ (D.shown disk.old).writes) }
+    ensures ok { OnOk result (Worked (Only file) 0 1 (D.shown disk.old) (D.shown disk.new)) }
+    ensures err { IfErr result (StopsAt Stop.Scratch (Only file) 0 0 (D.shown disk.old) (D.shown disk.new)) }
 {
     match disk.write(file, page, frame.bytes()) {
         Ok(()) => Ok(()),
@@ -59,15 +52,9 @@ pub(crate) fn read_page<D: Disk>(
 ) -> Result<(), Stop>
     requires { length frame.old ≡ (D.shown disk.old).page_len }
     ensures gives { OnOk result ((ps : List (List ℕ)) → Tells (D.shown disk.old) file ps → Gives page frame.new ps) }
-    ensures kept { OnOk result (Touches NoFile (D.shown disk.old) (D.shown disk.new)) }
     ensures len { length frame.new ≡ length frame.old }
-    ensures touches { Touches (λ f. f ≡ file) (D.shown disk.old) (D.shown disk.new) }
-    ensures only { IfErr result (λ e. e ≡ Stop.Scratch) }
-    ensures rose { OnErr result (Rose (D.shown disk.old).faults (D.shown disk.new).faults) }
-    ensures no_fault { OnOk result ((D.shown disk.new).faults ≡ (D.shown disk.old).faults) }
-    ensures reads { OnOk result ((D.shown disk.new).reads ≡ bumped (D.shown disk.old).reads) }
-    ensures reads_err { OnErr result ((D.shown disk.new).reads ≡ (D.shown disk.old).reads) }
-    ensures writes { (D.shown disk.new).writes ≡ (D.shown disk.old).writes }
+    ensures ok { OnOk result (Worked NoFile 1 0 (D.shown disk.old) (D.shown disk.new)) }
+    ensures err { IfErr result (StopsAt Stop.Scratch (Only file) 0 0 (D.shown disk.old) (D.shown disk.new)) }
 {
     match disk.read(file, page, frame.bytes_mut()) {
         Ok(()) => Ok(()),
@@ -83,4 +70,16 @@ pub(crate) fn start_page(frame: &mut Frame) -> PageWriter
     ensures len { length frame.new ≡ length frame.old }
 {
     PageWriter::start(frame.bytes_mut(), kinds::STREAM)
+}
+
+// Makes the frame a page of this kind with this one tuple.
+#[tactic(auto, unfolding(crate::specs::Stream::lone_page))]
+pub(crate) fn single_page(frame: &mut Frame, kind: u8, head: Head, body: &[u8])
+    requires len { IsPageLen (length frame.old) }
+    requires room { 13 + length body.now ≤ room_of (length frame.old) }
+    ensures page { frame.new ≡ lone_page (length frame.old) kind (tuple head body.now) }
+    ensures len { length frame.new ≡ length frame.old }
+{
+    let mut page = PageWriter::start(frame.bytes_mut(), kind);
+    page.append(frame.bytes_mut(), head.key, head.tag, body);
 }

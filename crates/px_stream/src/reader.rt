@@ -1,7 +1,6 @@
 // A file of tuples is read.
 ghost use Rattle.std.specs.Prelude.{◌≡◌, ◌≢◌, ◌<◌, ◌≤◌, ◌+◌, ◌-◌, ◌↔◌, [], ◌∷◌, ℕ, List, length, drop, IsTrue, OnOk, OnErr, IfErr, IfSome, IfOk, IfNone, OnSome, IsOk, IsOkAnd, IsSomeAnd, ⊤};
-ghost use Rattle.px_core.specs.Counts.{Rose, bumped};
-ghost use Rattle.px_core.specs.Shown.{Shown, Touches, NoFile};
+ghost use Rattle.px_core.specs.Shown.{Shown, Only, NoFile, Worked, StopsAt, Idle};
 ghost use Rattle.px_frames.specs.Buffer.{SameRoom, IsWithin};
 ghost use Rattle.px_pages.specs.Entry.{Entry};
 ghost use Rattle.px_pages.specs.Page.{IsPageLen, room_of, entry_of};
@@ -52,8 +51,8 @@ impl Model for Reader {
 }
 
 impl Reader {
-    ghost use Rattle.px_stream.specs.Counts.{bumped_by, unread, left};
-    ghost use Rattle.px_stream.specs.Stream.{ToGive, Holds, Leads, Shows, IsOver, tuple, first_body, body_within};
+    ghost use Rattle.px_stream.specs.Counts.{SameReader, WentOn, IsBetween, left};
+    ghost use Rattle.px_stream.specs.Stream.{ToGive, Has, Holds, Leads, Shows, IsOver, tuple, first_body, body_within};
 
     /// A reader of this file that has nothing to give. Pages are as long as the frame.
     pub fn new(frame: Frame, file: u32) -> Reader
@@ -76,15 +75,22 @@ impl Reader {
     /// Goes to the front of the file, of which this is the number of pages, as its writer's `pages` gave it. It reads no page.
     pub fn start(&mut self, pages: u64)
         ensures to_give { (s : Shown) (l : List Entry) → Holds s self.old.file pages l → ToGive s self.new l }
-        ensures page { self.new.page ≡ 0 }
-        ensures pages { self.new.pages ≡ pages }
-        ensures here { self.new.here ≡ [] }
-        ensures file { self.new.file ≡ self.old.file }
-        ensures page_len { self.new.page_len ≡ self.old.page_len }
+        ensures after { self.new ≡ record self.old { page = 0; pages = pages; here = [] } }
+        ensures stays { SameReader self.old self.new }
+    {
+        self.start_at(0, pages);
+    }
+
+    /// Goes to the page `first` of the file, to give its tuples and those of the pages after it, up to before the page `last`. It reads no page.
+    pub fn start_at(&mut self, first: u64, last: u64)
+        requires { first ≤ last }
+        ensures to_give { (s : Shown) (l : List Entry) → Has s self.old.file first last l → ToGive s self.new l }
+        ensures after { self.new ≡ record self.old { page = first; pages = last; here = [] } }
+        ensures stays { SameReader self.old self.new }
     {
         self.tuples = None;
-        self.page = 0;
-        self.pages = pages;
+        self.page = first;
+        self.pages = last;
     }
 
     // Reads the next page.
@@ -93,20 +99,13 @@ impl Reader {
         requires more { self.old.page < self.old.pages }
         requires empty { self.old.here ≡ [] }
         ensures to_give { OnOk result ((l : List Entry) → ToGive (D.shown disk.old) self.old l → ToGive (D.shown disk.new) self.new l) }
-        ensures kept { OnOk result (Touches NoFile (D.shown disk.old) (D.shown disk.new)) }
-        ensures touches { Touches (λ f. f ≡ self.old.file) (D.shown disk.old) (D.shown disk.new) }
-        ensures only { IfErr result (λ e. e ≡ Stop.Scratch) }
-        ensures rose { OnErr result (Rose (D.shown disk.old).faults (D.shown disk.new).faults) }
-        ensures no_fault { OnOk result ((D.shown disk.new).faults ≡ (D.shown disk.old).faults) }
-        ensures reads { OnOk result ((D.shown disk.new).reads ≡ bumped (D.shown disk.old).reads) }
-        ensures reads_err { OnErr result ((D.shown disk.new).reads ≡ (D.shown disk.old).reads) }
-        ensures writes { (D.shown disk.new).writes ≡ (D.shown disk.old).writes }
+        ensures ok { OnOk result (Worked NoFile 1 0 (D.shown disk.old) (D.shown disk.new)) }
+        ensures err { IfErr result (StopsAt Stop.Scratch (Only self.old.file) 0 0 (D.shown disk.old) (D.shown disk.new)) }
         ensures page { OnOk result (self.new.page ≡ self.old.page + 1) }
         ensures same_err { OnErr result (self.new ≡ self.old) }
         ensures falls { OnOk result (left self.new < left self.old) }
-        ensures file { self.new.file ≡ self.old.file }
         ensures pages { self.new.pages ≡ self.old.pages }
-        ensures page_len { self.new.page_len ≡ self.old.page_len }
+        ensures stays { SameReader self.old self.new }
     {
         read_page(disk, self.file, self.page, &mut self.frame)?;
         self.page += 1;
@@ -120,25 +119,12 @@ impl Reader {
         requires { self.old.page_len ≡ (D.shown disk.old).page_len }
         ensures to_give { OnOk result ((l : List Entry) → ToGive (D.shown disk.old) self.old l → ToGive (D.shown disk.new) self.new l) }
         ensures settled { OnOk result (self.new.here ≡ [] → self.new.page ≡ self.new.pages) }
-        ensures ready { (self.old.here ≢ []) → IsOk result }
         ensures still { (self.old.here ≢ []) → self.new ≡ self.old }
-        ensures untouched { (self.old.here ≢ []) → D.shown disk.new ≡ D.shown disk.old }
-        ensures kept { OnOk result (Touches NoFile (D.shown disk.old) (D.shown disk.new)) }
-        ensures touches { Touches (λ f. f ≡ self.old.file) (D.shown disk.old) (D.shown disk.new) }
-        ensures only { IfErr result (λ e. e ≡ Stop.Scratch) }
-        ensures rose { OnErr result (Rose (D.shown disk.old).faults (D.shown disk.new).faults) }
-        ensures no_fault { OnOk result ((D.shown disk.new).faults ≡ (D.shown disk.old).faults) }
-        ensures here_err { OnErr result (self.new.here ≡ []) }
-        ensures more_err { OnErr result (self.new.page < self.new.pages) }
-        ensures reads { (D.shown disk.new).reads ≡ bumped_by (self.new.page - self.old.page) (D.shown disk.old).reads }
-        ensures unread { (D.shown disk.new).reads + unread self.new ≤ (D.shown disk.old).reads + unread self.old }
-        ensures writes { (D.shown disk.new).writes ≡ (D.shown disk.old).writes }
-        ensures left { left self.new ≤ left self.old }
-        ensures page { self.old.page ≤ self.new.page }
-        ensures last { self.new.page ≤ self.new.pages }
-        ensures file { self.new.file ≡ self.old.file }
-        ensures pages { self.new.pages ≡ self.old.pages }
-        ensures page_len { self.new.page_len ≡ self.old.page_len }
+        ensures idle { (self.old.here ≢ []) → Idle result (D.shown disk.old) (D.shown disk.new) }
+        ensures ok { OnOk result (Worked NoFile (self.new.page - self.old.page) 0 (D.shown disk.old) (D.shown disk.new)) }
+        ensures err { IfErr result (StopsAt Stop.Scratch (Only self.old.file) (self.new.page - self.old.page) 0 (D.shown disk.old) (D.shown disk.new)) }
+        ensures between { OnErr result (IsBetween self.new) }
+        ensures on { WentOn (D.shown disk.old) (D.shown disk.new) self.old self.new }
     {
         let pages = self.pages;
         while self.edge() && self.page < pages {
@@ -156,10 +142,9 @@ impl Reader {
         ensures body { OnSome result (into.new.bytes ≡ body_within into.old.limit (first_body self.old.here)) }
         ensures within { OnSome result (IsWithin into.new) }
         ensures room { SameRoom into.old into.new }
-        ensures file { self.new.file ≡ self.old.file }
         ensures page { self.new.page ≡ self.old.page }
         ensures pages { self.new.pages ≡ self.old.pages }
-        ensures page_len { self.new.page_len ≡ self.old.page_len }
+        ensures stays { SameReader self.old self.new }
     {
         match next_in(&mut self.tuples, self.frame.bytes()) {
             None => None,
@@ -193,8 +178,8 @@ impl Reader {
         }
     }
 
-    /// The next tuple, whose body goes into the buffer, or `None` after the last of the stated pages. After `None` and after an error the buffer is as before.
-    /// It reads pages only where no tuple is left of the page in the frame, and no more than the stated pages from one `start` to the next.
+    /// The next tuple, whose body goes into the buffer, or `None` after the last of its pages. After `None` and after an error the buffer is as before.
+    /// It reads pages only where no tuple is left of the page in the frame, and each of its pages once from one `start` to the next.
     /// A page that no writer wrote may hold a body above the buffer's limit: in its place the buffer gets no bytes.
     pub fn next<D: Disk>(&mut self, disk: &mut D, into: &mut Buf) -> Result<Option<Head>, Stop>
         requires page_len { self.old.page_len ≡ (D.shown disk.old).page_len }
@@ -206,27 +191,15 @@ impl Reader {
         ensures body { (self.old.here ≢ []) → into.new.bytes ≡ body_within into.old.limit (first_body self.old.here) }
         ensures still { (self.old.here ≢ []) → self.new.page ≡ self.old.page }
         ensures untouched { (self.old.here ≢ []) → D.shown disk.new ≡ D.shown disk.old }
-        ensures left { left self.new ≤ left self.old }
         ensures falls { IfOk result (λ o. OnSome o (left self.new < left self.old)) }
-        ensures kept { OnOk result (Touches NoFile (D.shown disk.old) (D.shown disk.new)) }
-        ensures touches { Touches (λ f. f ≡ self.old.file) (D.shown disk.old) (D.shown disk.new) }
-        ensures only { IfErr result (λ e. e ≡ Stop.Scratch) }
-        ensures rose { OnErr result (Rose (D.shown disk.old).faults (D.shown disk.new).faults) }
-        ensures no_fault { OnOk result ((D.shown disk.new).faults ≡ (D.shown disk.old).faults) }
-        ensures here_err { OnErr result (self.new.here ≡ []) }
-        ensures more_err { OnErr result (self.new.page < self.new.pages) }
-        ensures reads { (D.shown disk.new).reads ≡ bumped_by (self.new.page - self.old.page) (D.shown disk.old).reads }
-        ensures unread { (D.shown disk.new).reads + unread self.new ≤ (D.shown disk.old).reads + unread self.old }
-        ensures writes { (D.shown disk.new).writes ≡ (D.shown disk.old).writes }
+        ensures ok { OnOk result (Worked NoFile (self.new.page - self.old.page) 0 (D.shown disk.old) (D.shown disk.new)) }
+        ensures err { IfErr result (StopsAt Stop.Scratch (Only self.old.file) (self.new.page - self.old.page) 0 (D.shown disk.old) (D.shown disk.new)) }
+        ensures between { OnErr result (IsBetween self.new) }
         ensures unused { IfOk result (λ o. IfNone o (into.new ≡ into.old)) }
         ensures unused_err { OnErr result (into.new ≡ into.old) }
         ensures within { IfOk result (λ o. OnSome o (IsWithin into.new)) }
         ensures room { SameRoom into.old into.new }
-        ensures page { self.old.page ≤ self.new.page }
-        ensures last { self.new.page ≤ self.new.pages }
-        ensures file { self.new.file ≡ self.old.file }
-        ensures pages { self.new.pages ≡ self.old.pages }
-        ensures page_len { self.new.page_len ≡ self.old.page_len }
+        ensures on { WentOn (D.shown disk.old) (D.shown disk.new) self.old self.new }
     {
         self.settle(disk)?;
         Ok(self.take_one(into))
@@ -240,25 +213,12 @@ impl Reader {
         ensures some { IfOk result (λ o. IfSome o (λ h. (l : List Entry) → ToGive (D.shown disk.old) self.old l → Leads (tuple h (first_body self.new.here)) l (λ _. ⊤))) }
         ensures over { IfOk result (λ o. IfNone o (IsOver self.new)) }
         ensures shows { IfOk result (λ o. IfSome o (λ h. Shows h self.new)) }
-        ensures ready { (self.old.here ≢ []) → IsOk result }
         ensures still { (self.old.here ≢ []) → self.new ≡ self.old }
-        ensures untouched { (self.old.here ≢ []) → D.shown disk.new ≡ D.shown disk.old }
-        ensures left { left self.new ≤ left self.old }
-        ensures kept { OnOk result (Touches NoFile (D.shown disk.old) (D.shown disk.new)) }
-        ensures touches { Touches (λ f. f ≡ self.old.file) (D.shown disk.old) (D.shown disk.new) }
-        ensures only { IfErr result (λ e. e ≡ Stop.Scratch) }
-        ensures rose { OnErr result (Rose (D.shown disk.old).faults (D.shown disk.new).faults) }
-        ensures no_fault { OnOk result ((D.shown disk.new).faults ≡ (D.shown disk.old).faults) }
-        ensures here_err { OnErr result (self.new.here ≡ []) }
-        ensures more_err { OnErr result (self.new.page < self.new.pages) }
-        ensures reads { (D.shown disk.new).reads ≡ bumped_by (self.new.page - self.old.page) (D.shown disk.old).reads }
-        ensures unread { (D.shown disk.new).reads + unread self.new ≤ (D.shown disk.old).reads + unread self.old }
-        ensures writes { (D.shown disk.new).writes ≡ (D.shown disk.old).writes }
-        ensures page { self.old.page ≤ self.new.page }
-        ensures last { self.new.page ≤ self.new.pages }
-        ensures file { self.new.file ≡ self.old.file }
-        ensures pages { self.new.pages ≡ self.old.pages }
-        ensures page_len { self.new.page_len ≡ self.old.page_len }
+        ensures idle { (self.old.here ≢ []) → Idle result (D.shown disk.old) (D.shown disk.new) }
+        ensures ok { OnOk result (Worked NoFile (self.new.page - self.old.page) 0 (D.shown disk.old) (D.shown disk.new)) }
+        ensures err { IfErr result (StopsAt Stop.Scratch (Only self.old.file) (self.new.page - self.old.page) 0 (D.shown disk.old) (D.shown disk.new)) }
+        ensures between { OnErr result (IsBetween self.new) }
+        ensures on { WentOn (D.shown disk.old) (D.shown disk.new) self.old self.new }
     {
         self.settle(disk)?;
         Ok(self.probe())
@@ -283,12 +243,8 @@ impl Reader {
     pub fn pass(&mut self)
         requires { self.old.here ≢ [] }
         ensures to_give { (s : Shown) (l : List Entry) → ToGive s self.old l → ToGive s self.new (drop 1 l) }
-        ensures here { self.new.here ≡ drop 1 self.old.here }
+        ensures after { self.new ≡ record self.old { here = drop 1 self.old.here } }
         ensures falls { left self.new < left self.old }
-        ensures file { self.new.file ≡ self.old.file }
-        ensures page { self.new.page ≡ self.old.page }
-        ensures pages { self.new.pages ≡ self.old.pages }
-        ensures page_len { self.new.page_len ≡ self.old.page_len }
     {
         let passed = next_in(&mut self.tuples, self.frame.bytes());
         match passed {
@@ -304,9 +260,18 @@ impl Reader {
         self.probe().is_none()
     }
 
+    /// The length of a page.
+    pub fn page_len(&self) -> u32
+        ensures len { result ≡ self.now.page_len }
+        ensures valid { IsPageLen result }
+    {
+        self.frame.bytes().len() as u32
+    }
+
     /// The frame back. What its bytes are is not said.
     pub fn close(self) -> Frame
-        ensures { length result ≡ self.page_len }
+        ensures len { length result ≡ self.page_len }
+        ensures valid { IsPageLen self.page_len }
     {
         self.frame
     }

@@ -152,3 +152,4 @@ fn each_call_of_a_broken_disk_is_scratch(rt: HostRuntime) -> Result<(), Fail> {
 }
 
 mod memory;
+mod merging;

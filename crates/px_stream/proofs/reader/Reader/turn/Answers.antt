@@ -13,7 +13,7 @@ returns-clause-to_give g c =
     let more = c.requires.more in
     let empty = c.requires.empty in
     λ l k. turned _ _ c.args.self.now _ frame l
-    (rw (← c.self.view_is) c.in_ok-read_page.ensures.gives) c.in_ok-read_page.ensures.kept more empty
+    (rw (← c.self.view_is) c.in_ok-read_page.ensures.gives) c.in_ok-read_page.ensures.ok.touches more empty
     (rw (← c.self.view_is) refl) (rw (← c.self.view_is) refl) (rw (← c.self.view_is) refl) all k
 
 pub returns-in_err-read_page-clause-same_err : goal.returns-in_err-read_page-clause-same_err
