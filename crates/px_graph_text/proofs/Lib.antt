@@ -3,5 +3,4 @@ pub mod Ending
 pub mod Frames
 pub mod Leading
 pub mod Passing
-pub mod Sorted
 pub mod Texts

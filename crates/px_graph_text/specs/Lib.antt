@@ -1,5 +1,4 @@
 pub mod Kinds
 pub mod Passing
 pub mod Reading
-pub mod Sorted
 pub mod Steps

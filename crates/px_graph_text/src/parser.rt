@@ -110,7 +110,6 @@ impl Parser {
         ensures same { self.new ≡ record self.old { ahead = self.new.ahead } }
         ensures cause { OnErr result (Rose (R.faults source.old) (R.faults source.new)) }
         ensures no_fault { OnOk result (R.faults source.new ≡ R.faults source.old) }
-        ensures faults { R.faults source.old ≤ R.faults source.new }
     {
         if self.from < self.to {
             return Ok(true);
@@ -212,7 +211,6 @@ impl Parser {
         ensures bad { IfErr result (λ stop. OfRest (R.left source.old) into.old.room self.old (IsBad stop)) }
         ensures cause { IfErr result (λ stop. stop ≡ TextStop.Source → Rose (R.faults source.old) (R.faults source.new)) }
         ensures no_fault { result ≢ Err TextStop.Source → R.faults source.new ≡ R.faults source.old }
-        ensures faults { R.faults source.old ≤ R.faults source.new }
         ensures falls { IfOk result (λ given. IsTrue given → left self.new < left self.old) }
         ensures same { SameParser self.old self.new }
         ensures frame { SameFrame into.old into.new }
@@ -243,7 +241,6 @@ impl Parser {
         ensures bad { IfErr result (λ stop. OfRest (R.left source.old) into.old.room self.old (IsBad stop)) }
         ensures cause { IfErr result (λ stop. stop ≡ TextStop.Source → Rose (R.faults source.old) (R.faults source.new)) }
         ensures no_fault { result ≢ Err TextStop.Source → R.faults source.new ≡ R.faults source.old }
-        ensures faults { R.faults source.old ≤ R.faults source.new }
         ensures falls { IfOk result (λ given. IsTrue given → left self.new < left self.old) }
         ensures same { SameParser self.old self.new }
         ensures spent { self.new.spent ≡ is_err result }

@@ -60,7 +60,7 @@ pub IsAscending-ascending : (ns : List ℕ) → IsAscending (ascending ns)
 IsAscending-ascending [] = tt
 IsAscending-ascending (n ∷ ns) = IsAscending-place n (ascending ns) (IsAscending-ascending ns)
 
-place_first : (n : ℕ) (ns : List ℕ) → AllAbove n ns → place n ns ≡ n ∷ ns
+pub place_first : (n : ℕ) (ns : List ℕ) → AllAbove n ns → place n ns ≡ n ∷ ns
 place_first n [] a = refl
 place_first n (m ∷ ns) a = place_below n m ns a.0
 

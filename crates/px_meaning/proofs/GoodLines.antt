@@ -22,20 +22,21 @@ over_byte room spot next b rest x e h =
 
 -- a digit is no blank, no `:` and no `#`
 
-digit_bounds : (b : ℕ) → is_digit b ≡ true → (48 ≤ b) × (b ≤ 57)
+pub digit_bounds : (b : ℕ) → is_digit b ≡ true → (48 ≤ b) × (b ≤ 57)
 digit_bounds b e = let parts = and_parts (leb 48 b) (leb b 57) e in (leb-true 48 b parts.0, leb-true b 57 parts.1)
 
-digit_not : (b other : ℕ) → is_digit b ≡ true → (48 ≤ b → b ≤ 57 → b ≡ other → ⊥) → (b == other) ≡ false
+pub digit_not : (b other : ℕ) → is_digit b ≡ true → (48 ≤ b → b ≤ 57 → b ≡ other → ⊥) → (b == other) ≡ false
 digit_not b other e h = let bounds = digit_bounds b e in ne_eqb b other (h bounds.0 bounds.1)
 
-digit_no_blank : (b : ℕ) → is_digit b ≡ true → is_blank b ≡ false
+pub digit_no_blank : (b : ℕ) → is_digit b ≡ true → is_blank b ≡ false
 digit_no_blank b e =
     or_from (b == 32 || b == 9) (b == 13) (or_from (b == 32) (b == 9) (digit_not b 32 e (λ low high is. omega arith)) (digit_not b 9 e (λ low high is. omega arith)))
     (digit_not b 13 e (λ low high is. omega arith))
 
 -- over a number
 
-fold_grows : (n : ℕ) (word : List ℕ) → n ≤ fold with_digit n word
+-- more digits make no lesser number
+pub fold_grows : (n : ℕ) (word : List ℕ) → n ≤ fold with_digit n word
 fold_grows n [] = omega arith
 fold_grows n (b ∷ word) = omega (arith, fold_grows (with_digit n b) word)
 

@@ -1,26 +1,13 @@
 -- Pairs grouped by vid are a map, whose look-ups are the inboxes.
-use Rattle.std.proofs.Common.{◌≡◌, ℕ, List, [], ◌∷◌, ◌++◌, map, true, Option, Some, None, is_some, unwrap_or, IsTrue, sym, ◌∙◌, ap, refl, subst, inl, inr}
-use Rattle.std.proofs.lemmas.Bool.{true≢false, cases_eq, cases_Bool}
+use Rattle.std.proofs.Common.{◌≡◌, ℕ, List, [], ◌++◌, true, Option, Some, None, is_some, unwrap_or, IsTrue, sym, ◌∙◌, ap, refl, subst, inl, inr}
+use Rattle.std.proofs.lemmas.Bool.{true≢false, cases_Bool}
 use Rattle.std.proofs.lemmas.List.Folds.{list_all-map}
 use Rattle.px_meaning.specs.Graph.{vids, lookup, ascending, IsAscending, IsMap}
 use Rattle.px_meaning.specs.Merge.{MergeRule, MergeLaws, Pairs, AllValid, IsValidMessage, inbox, merged, grouped}
-use Rattle.px_meaning.proofs.Ascending.{has, has-rest, has-ascending, IsAscending-ascending, all_from_members}
-use Rattle.px_meaning.proofs.Maps.{lookup_here, lookup_past, lookup_none, maps_equal}
+use Rattle.px_meaning.proofs.Ascending.{has, has-ascending, IsAscending-ascending, all_from_members}
+use Rattle.px_meaning.proofs.Each.{vids_of_each, lookup_of_each}
+use Rattle.px_meaning.proofs.Maps.{lookup_none, maps_equal}
 use Rattle.px_meaning.proofs.Inbox.{is_some-inbox, inbox_none, inbox_valid, inbox_of_map, inbox-append}
-
--- a list of numbers with a value for each
-
-vids_of_each : {X : Type 0} (f : ℕ → X) (ns : List ℕ) → vids (map (λ v. (v, f v)) ns) ≡ ns
-vids_of_each f [] = refl
-vids_of_each f (n ∷ ns) = ap (λ (l : List ℕ). n ∷ l) (vids_of_each f ns)
-
-lookup_of_each : {X : Type 0} (f : ℕ → X) (k : ℕ) (ns : List ℕ) → has k ns ≡ true → lookup k (map (λ v. (v, f v)) ns) ≡ Some (f k)
-lookup_of_each f k [] h = absurd (true≢false (sym h))
-lookup_of_each f k (n ∷ ns) h =
-    elim (cases_eq k n) [
-      | inl s ↦ lookup_here k (n, f n) (map (λ v. (v, f v)) ns) s ∙ ap (λ v. Some (f v)) (sym s)
-      | inr d ↦ lookup_past k (n, f n) (map (λ v. (v, f v)) ns) d ∙ lookup_of_each f k ns (sym (has-rest k n ns d) ∙ h)
-    ]
 
 some_or : {X : Type 0} (o : Option X) (d : X) → is_some o ≡ true → Some (unwrap_or o d) ≡ o
 some_or None d h = absurd (true≢false (sym h))

@@ -1,4 +1,8 @@
 pub mod Ascending
+pub mod Attaching
+pub mod ComputedRows
+pub mod Each
+pub mod Folding
 pub mod GoodLines
 pub mod Grouping
 pub mod Inbox
@@ -7,11 +11,16 @@ pub mod LineWords
 pub mod MapParts
 pub mod MapTests
 pub mod Maps
+pub mod OffenceKinds
 pub mod Offences
 pub mod Readings
 pub mod Rearranged
 pub mod Rows
 pub mod RunRows
+pub mod Running
 pub mod Settling
+pub mod Sorted
+pub mod StepParts
 pub mod Steps
+pub mod TextMeanings
 pub mod TextRows

@@ -13,7 +13,7 @@ good_not_refused place kind (Some x) e = cc
 
 -- a byte that is refused is refused whatever follows
 
-later_refused : (r : Reading) (place : ℕ) (kind : Kind) → later r ≡ Refused place kind → (at : ℕ) × (place ≡ suc at) × (r ≡ Refused at kind)
+pub later_refused : (r : Reading) (place : ℕ) (kind : Kind) → later r ≡ Refused place kind → (at : ℕ) × (place ≡ suc at) × (r ≡ Refused at kind)
 later_refused Nothing place kind e = absurd cc
 later_refused (Spelled v es) place kind e = absurd cc
 later_refused (Refused at other) place kind e = (at, cc, cc)

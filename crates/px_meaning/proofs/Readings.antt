@@ -9,25 +9,25 @@ use Rattle.px_meaning.proofs.LineWords.{more_blanks, one_blank, number_begins, n
 
 -- what the bytes before a spot are
 
-record Commented (line : List ℕ) : Type 0 where
+pub record Commented (line : List ℕ) : Type 0 where
   before : List ℕ
   rest : List ℕ
   blanks : AreBlanks before
   whole : line ≡ before ++ 35 ∷ rest
 
-record Named (v : ℕ) (line : List ℕ) : Type 0 where
-  before : List ℕ
-  word : List ℕ
-  blanks : AreBlanks before
-  vid : IsNumber greatest_vid word v
-  whole : line ≡ before ++ word
+pub record Named (v : ℕ) (line : List ℕ) : Type 0 where
+  pub before : List ℕ
+  pub word : List ℕ
+  pub blanks : AreBlanks before
+  pub vid : IsNumber greatest_vid word v
+  pub whole : line ≡ before ++ word
 
-record Coloned (room v : ℕ) (es : Edges) (dst : ℕ) (line : List ℕ) : Type 0 where
-  front : List ℕ
+pub record Coloned (room v : ℕ) (es : Edges) (dst : ℕ) (line : List ℕ) : Type 0 where
+  pub front : List ℕ
   targeted : Targeted room v es dst front
-  whole : line ≡ front ++ 58 ∷ []
+  pub whole : line ≡ front ++ 58 ∷ []
 
-abbrev At : ℕ → Spot → List ℕ → Type 0
+abbrev pub At : ℕ → Spot → List ℕ → Type 0
 At room Start line = AreBlanks line
 At room Comment line = Commented line
 At room (InVid v) line = Named v line
@@ -37,7 +37,7 @@ At room (Colon v es dst) line = Coloned room v es dst line
 At room (InWeight v es dst weight) line = Weighed room v es dst weight line
 
 -- a spot with its bytes, where a move goes on
-abbrev Lands : ℕ → Move → List ℕ → Type 0
+abbrev pub Lands : ℕ → Move → List ℕ → Type 0
 Lands room (On spot) line = At room spot line
 Lands room (Off kind) line = Unit {0}
 
@@ -56,7 +56,7 @@ gap_begins room v b es line h e = record { front = line; gap = b ∷ []; spelled
 grown : (line front part : List ℕ) (b : ℕ) → line ≡ front ++ part → line ++ b ∷ [] ≡ front ++ (part ++ b ∷ [])
 grown line front part b e = ap (λ l. l ++ b ∷ []) e ∙ append_assoc front part (b ∷ [])
 
-steps : (room : ℕ) (spot : Spot) (line : List ℕ) (b : ℕ) → At room spot line → Lands room (move room spot b) (line ++ b ∷ [])
+pub steps : (room : ℕ) (spot : Spot) (line : List ℕ) (b : ℕ) → At room spot line → Lands room (move room spot b) (line ++ b ∷ [])
 steps room Start line b h =
     let P = λ (m : Move). Lands room m (line ++ b ∷ []) in
     cond_both (is_blank b) _ _ P (λ e. more_blanks line b h e) (λ _.
@@ -116,7 +116,7 @@ good_when_spelled room v es line after h blanks =
     (sym (ap (λ l. l ++ after) h.whole ∙ append_assoc h.before (h.word ++ h.middle) after ∙ ap (λ l. h.before ++ l) (append_assoc h.word h.middle after)))
     (VertexLine h.before h.word h.middle after v es h.blanks h.vid h.edges blanks h.fits)
 
-good_when_gapped : (room v : ℕ) (es : Edges) (line : List ℕ) → Gapped room v es line → IsGoodLine room (line ++ []) (Some (v, es))
+pub good_when_gapped : (room v : ℕ) (es : Edges) (line : List ℕ) → Gapped room v es line → IsGoodLine room (line ++ []) (Some (v, es))
 good_when_gapped room v es line h =
     subst (λ l. IsGoodLine room l (Some (v, es))) (sym (append-nil line ∙ h.whole)) (good_when_spelled room v es h.front h.gap h.spelled h.blanks)
 

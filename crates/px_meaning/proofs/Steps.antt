@@ -5,33 +5,30 @@ use Rattle.std.proofs.lemmas.Bool.{and_parts, and_from, or_from, not-false, fals
 use Rattle.px_meaning.specs.Graph.{Graph, lookup, vids, ascending, IsMap}
 use Rattle.px_meaning.specs.Merge.{MergeRule, Pairs, inbox}
 use Rattle.px_meaning.specs.Program.{ProgramMeaning, Row}
-use Rattle.px_meaning.specs.Step.{State, moment, is_awake, is_active, row_at, rows, Computed, computed, put_all, settled, step, is_beyond}
+use Rattle.px_meaning.specs.Step.{State, is_awake, is_active, row_at, rows, put_all, settled, step, is_beyond}
 use Rattle.px_meaning.specs.Meaning.{has_no_pairs, is_halted}
+use Rattle.px_meaning.specs.Phase.{computed_from}
 use Rattle.px_meaning.proofs.Ascending.{has, has-first}
 use Rattle.px_meaning.proofs.Maps.{lookup_here, lookup_past, lookup_below, some_same}
 use Rattle.px_meaning.proofs.Inbox.{is_some-inbox}
 use Rattle.px_meaning.proofs.Rows.{has-filter_no, vids_of_rows, active_row}
 use Rattle.px_meaning.proofs.Settling.{IsMap-put_all, IsMap-settled}
 
--- what a step computes of its rows
-abbrev pub step_computes : ProgramMeaning → State → Computed
-step_computes p s = computed p (moment s) (rows p s)
-
 -- the graph with the new vertices in it
 abbrev pub graph_before : ProgramMeaning → State → Graph
-graph_before p s = put_all s.graph (step_computes p s).changes
+graph_before p s = put_all s.graph (computed_from p s).changes
 
 -- and with the requests settled
 abbrev pub graph_after : ProgramMeaning → State → Graph
-graph_after p s = settled p (graph_before p s) (step_computes p s).requests
+graph_after p s = settled p (graph_before p s) (computed_from p s).requests
 
 -- the state that a step within the limits gives
 abbrev pub next_state : ProgramMeaning → State → State
-next_state p s = record { superstep = suc s.superstep; graph = graph_after p s; sends = (step_computes p s).sends; aggregate = fold p.join p.unit (step_computes p s).contributions }
+next_state p s = record { superstep = suc s.superstep; graph = graph_after p s; sends = (computed_from p s).sends; aggregate = fold p.join p.unit (computed_from p s).contributions }
 
 -- whether the step is beyond the limits
 abbrev pub steps_beyond : ProgramMeaning → ℕ → State → Bool
-steps_beyond p room s = is_beyond p room (graph_before p s) (graph_after p s) (step_computes p s).sends (step_computes p s).requests
+steps_beyond p room s = is_beyond p room (graph_before p s) (graph_after p s) (computed_from p s).sends (computed_from p s).requests
 
 some_of_choice : {X : Type 0} (b : Bool) (x y : X) → (if b then None else Some x) ≡ Some y → (b ≡ false) × (x ≡ y)
 some_of_choice true x y h = absurd (true≢false (ap is_some (sym h)))
@@ -52,7 +49,7 @@ step_none p room s is = none_of_choice (steps_beyond p room s) (next_state p s) 
 -- the next graph is a map
 pub IsMap-next : (p : ProgramMeaning) (room : ℕ) (s t : State) → step p room s ≡ Some t → IsMap s.graph → IsMap t.graph
 IsMap-next p room s t is m =
-    subst (λ (u : State). IsMap u.graph) (step_some p room s t is).1 (IsMap-settled p (graph_before p s) (step_computes p s).requests (IsMap-put_all s.graph (step_computes p s).changes m))
+    subst (λ (u : State). IsMap u.graph) (step_some p room s t is).1 (IsMap-settled p (graph_before p s) (computed_from p s).requests (IsMap-put_all s.graph (computed_from p s).changes m))
 
 halts : (v : ℕ) (g : Graph) → list_all (λ e. e.1.halt) g ≡ true → is_awake (lookup v g) ≡ false
 halts v [] h = refl

@@ -14,9 +14,12 @@ abbrev pub vertex_line : ProgramMeaning → ℕ × Vertex → List ℕ
 vertex_line p e = decimal e.0 ++ codes " " ++ p.value_text e.1 ++ flat_map edge_text e.1.edges ++ codes "\n"
 
 -- the last line: the superstep's number, the aggregate and the number of vertices, and LF
+abbrev pub summary_line : ℕ → ℕ → ℕ → List ℕ
+summary_line superstep aggregate count =
+    codes "#superstep " ++ decimal superstep ++ codes " aggregate " ++ decimal aggregate ++ codes " vertices " ++ decimal count ++ codes "\n"
+
 abbrev pub summary_of : State → List ℕ
-summary_of s =
-    codes "#superstep " ++ decimal s.superstep ++ codes " aggregate " ++ decimal s.aggregate ++ codes " vertices " ++ decimal (length s.graph) ++ codes "\n"
+summary_of s = summary_line s.superstep s.aggregate (length s.graph)
 
 abbrev pub text_of : ProgramMeaning → State → List ℕ
 text_of p s = flat_map (vertex_line p) s.graph ++ summary_of s

@@ -10,4 +10,5 @@ pub use laws::{
 };
 pub use lines::{
     first_offence_is_refused, good_lines_are_read, read_lines_are_good, refused_at_first_offence,
+    refused_for_its_kind,
 };

@@ -1,5 +1,5 @@
 -- Which stop ended a superstep.
-use Rattle.std.proofs.Common.{◌≡◌, Result, Err, ap, sym, ◌∙◌, refl}
+use Rattle.std.proofs.Common.{◌≡◌, Result, Err, sym, ◌∙◌, refl}
 use Rattle.px_core.specs.declared.stop.Stop.{Stop}
 use Rattle.px_core.specs.declared.stop.Stop.TheVariants.{Graph, Scratch, Beyond}
 use Rattle.px_plain.specs.declared.job.StepEnd.{StepEnd}
@@ -12,7 +12,7 @@ ends_beyond Scratch h = absurd (cc)
 ends_beyond Beyond h = refl
 
 -- only a stop at the limits is answered as one
-pub stop_is_beyond : (stop : Stop) (end : StepEnd) (result : Result (Unit {0}) StepEnd) → result ≡ Err end → end ≡ end_of stop → result ≡ Err ends.Beyond → ◌≡◌ {A = Result (Unit {0}) Stop} (Err stop) (Err Beyond)
+pub stop_is_beyond : (stop : Stop) (end : StepEnd) (result : Result (Unit {0}) StepEnd) → result ≡ Err end → end ≡ end_of stop → result ≡ Err ends.Beyond → stop ≡ Beyond
 stop_is_beyond stop end result is same beyond =
     let e : end ≡ ends.Beyond = cc in
-    ap (λ (s : Stop). Err s) (ends_beyond stop (sym same ∙ e))
+    ends_beyond stop (sym same ∙ e)

@@ -9,7 +9,7 @@ use Rattle.std.proofs.lemmas.List.Sorted.{IsPermutation-map}
 use Rattle.px_meaning.specs.Graph.{Graph, Vertex, fresh, vids}
 use Rattle.px_meaning.specs.Program.{Row}
 use Rattle.px_record.specs.Body.{vertex_of}
-use Rattle.px_plain.specs.Attached.{plain, plain_row}
+use Rattle.px_meaning.specs.Attached.{plain, plain_row}
 use Rattle.px_plain.specs.Entries.{row_of, rows_of, IsHeld}
 use Rattle.px_plain.specs.Reading.{IsGiven}
 use Rattle.px_plain.specs.Texts.{vertex_in, graph_in}

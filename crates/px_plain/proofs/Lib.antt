@@ -1,14 +1,12 @@
-pub mod Attaching
 pub mod Bodies
 pub mod Ends
 pub mod Given
-pub mod Groups
 pub mod Halting
 pub mod Letters
 pub mod Phases
 pub mod Plain
 pub mod ReadingSteps
-pub mod Running
+pub mod RunEnds
 pub mod Sorting
 pub mod Stands
 pub mod Supersteps

@@ -3,8 +3,9 @@ use Rattle.std.specs.Prelude.{◌≡◌, ℕ, List, [], ◌++◌, map, fold, len
 use Rattle.px_meaning.specs.Graph.{IsMap, ascending, vids}
 use Rattle.px_meaning.specs.Merge.{AllValid}
 use Rattle.px_meaning.specs.Program.{ProgramMeaning}
-use Rattle.px_meaning.specs.Step.{State, Computed, moment, rows, row_at, computed, put_all}
-use Rattle.px_plain.specs.Attached.{plain}
+use Rattle.px_meaning.specs.Step.{State, row_at, put_all}
+use Rattle.px_meaning.specs.Attached.{plain}
+use Rattle.px_meaning.specs.Phase.{computed_from}
 use Rattle.px_plain.specs.Entries.{pairs_of, rows_of, IsHeld}
 use Rattle.px_plain.specs.declared.entry.Entry.{Entry}
 use Rattle.px_plain.specs.declared.entry.Letter.{Letter}
@@ -22,10 +23,6 @@ pub record StandsFor (p : ProgramMeaning) (room : ℕ) (entries : List Entry) (s
 
 abbrev pub Stands : {P M V : Type 0} → ProgramMeaning → Job P M V → State → Type 0
 Stands p job s = StandsFor p job.room job.entries.items job.superstep job.aggregate job.count s
-
--- what a superstep from the state computes
-abbrev pub computed_from : ProgramMeaning → State → Computed
-computed_from p s = computed p (moment s) (rows p s)
 
 -- the compute phase of a superstep from the state is over: what was sent and contributed is here, and the entries have the new vertices and no messages
 pub record HasComputed (p : ProgramMeaning) (room : ℕ) (s : State) (entries : List Entry) (superstep : ℕ) (sends : List Letter) (aggregate : ℕ) : Type 0 where

@@ -1,7 +1,5 @@
-pub mod Attached
 pub mod Ends
 pub mod Entries
-pub mod Groups
 pub mod Jobs
 pub mod Phase
 pub mod Posts

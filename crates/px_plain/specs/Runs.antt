@@ -1,8 +1,9 @@
 -- How a run over vectors goes on and ends.
-use Rattle.std.specs.Prelude.{◌≡◌, ℕ, suc, ◌+◌, ◌-◌, None}
+use Rattle.std.specs.Prelude.{◌≡◌, ℕ, suc, None}
 use Rattle.px_meaning.specs.Meaning as outcomes
-use Rattle.px_meaning.specs.Meaning.{Outcome, run}
+use Rattle.px_meaning.specs.Meaning.{Outcome}
 use Rattle.px_meaning.specs.Program.{ProgramMeaning}
+use Rattle.px_meaning.specs.Runs as runs
 use Rattle.px_meaning.specs.Step.{State, step}
 use Rattle.px_plain.specs.Jobs.{Stands}
 use Rattle.px_plain.specs.declared.job.Job.{Job}
@@ -10,17 +11,12 @@ use Rattle.px_plain.specs.declared.job.RunEnd.{RunEnd}
 use Rattle.px_plain.specs.declared.job.RunEnd.TheVariants.{Beyond, Limit, Memory}
 
 -- the run from the state on comes to a halted state, for which the job stands
-pub record HasHalted {P M V : Type 0} (p : ProgramMeaning) (room most : ℕ) (s : State) (job : Job P M V) : Type 0 where
-  pub state : State
-  pub halted : run p room most s ≡ outcomes.Halted state
-  pub stands : Stands p job state
+abbrev pub HasHalted : {P M V : Type 0} → ProgramMeaning → ℕ → ℕ → State → Job P M V → Type 0
+HasHalted p room most s job = runs.HasHalted p room most s (Stands p job)
 
 -- so many steps of the run were taken, and the job stands for the state that they led to
-pub record HasRun {P M V : Type 0} (p : ProgramMeaning) (room most taken : ℕ) (s : State) (job : Job P M V) : Type 0 where
-  pub state : State
-  pub same : run p room most s ≡ run p room (most - taken) state
-  pub superstep_is : state.superstep ≡ s.superstep + taken
-  pub stands : Stands p job state
+abbrev pub HasRun : {P M V : Type 0} → ProgramMeaning → ℕ → ℕ → ℕ → State → Job P M V → Type 0
+HasRun p room most taken s job = runs.HasRun p room most taken s (Stands p job)
 
 -- the end of a step: beyond the limits in the step to this superstep. Of a want of memory nothing is said
 abbrev pub IsStepEnd : ProgramMeaning → ℕ → State → RunEnd → Type 0

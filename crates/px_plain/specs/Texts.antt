@@ -1,5 +1,5 @@
 -- The text of a job over vectors.
-use Rattle.std.specs.Prelude.{ℕ, List, ◌++◌, flat_map, codes, decimal, Option}
+use Rattle.std.specs.Prelude.{ℕ, List, flat_map, Option}
 use Rattle.std.specs.List.{filter_map}
 use Rattle.std.specs.Option.{option_map}
 use Rattle.px_meaning.specs.Graph.{Graph, Vertex}
@@ -15,11 +15,6 @@ vertex_in e = option_map (λ b. (e.vid, vertex_of b.items)) e.vertex
 -- the vertices of entries
 abbrev pub graph_in : List Entry → Graph
 graph_in entries = filter_map vertex_in entries
-
--- the last line for these numbers
-abbrev pub summary_line : ℕ → ℕ → ℕ → List ℕ
-summary_line superstep aggregate count =
-    codes "#superstep " ++ decimal superstep ++ codes " aggregate " ++ decimal aggregate ++ codes " vertices " ++ decimal count ++ codes "\n"
 
 -- a line for each vertex
 abbrev pub vertex_lines : ProgramMeaning → List Entry → List ℕ

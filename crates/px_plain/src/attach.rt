@@ -3,8 +3,8 @@ ghost use Rattle.std.specs.Prelude.{◌≡◌, ◌<◌, ◌++◌, ◌∷◌, [],
 ghost use Rattle.std.specs.Option.{option_map};
 ghost use Rattle.px_meaning.specs.Graph.{Graph, IsMap};
 ghost use Rattle.px_meaning.specs.Program.{Row};
-ghost use Rattle.px_plain.specs.Entries.{pair_of, pairs_of, row_of, rows_of, joined, IsHeld};
-ghost use Rattle.px_plain.specs.Attached.{plain, fresh_row, below, not_below, first_at, past, attached};
+ghost use Rattle.px_plain.specs.Entries.{pair_of, pairs_of, row_of, rows_of, IsHeld};
+ghost use Rattle.px_meaning.specs.Attached.{joined, plain, fresh_row, below, not_below, first_at, past, attached};
 
 use crate::entry::{Entry, Letter};
 use std::alloc::{AllocError, Global};

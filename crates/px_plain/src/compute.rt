@@ -3,12 +3,14 @@ ghost use Rattle.std.specs.Prelude.{◌≡◌, ◌⊎◌, ◌≤◌, ◌<◌, �
 ghost use Rattle.px_meaning.specs.Graph.{vertex_or_fresh, vertex_size};
 ghost use Rattle.px_meaning.specs.Step.{computed};
 ghost use Rattle.px_program.specs.Posted.{Posted, with_out, IsPartOf, IsBeyond, made_for, nothing};
-ghost use Rattle.px_plain.specs.Entries.{pairs_of, row_of, rows_of, IsHeld, computed_row};
-ghost use Rattle.px_plain.specs.Phase.{moment_of, answered_row, with_all, active, has_wide_answer, HasValidMessage, ArePosted, IsPartOfAll};
+ghost use Rattle.px_plain.specs.Entries.{pairs_of, row_of, rows_of, IsHeld};
+ghost use Rattle.px_meaning.specs.Phase.{computed_row, answered_row, has_wide_answer};
+ghost use Rattle.px_program.specs.Phase.{with_all, ArePosted, IsPartOfAll};
+ghost use Rattle.px_plain.specs.Phase.{moment_of, active, HasValidMessage};
 
 use crate::entry::{Entry, Letter};
 use crate::job::StepEnd;
-use crate::posts::{Meant, Posts};
+use crate::posts::Posts;
 use px_core::Stop;
 use px_program::{At, Outbox, Program};
 use px_record::VertexBuf;
@@ -187,8 +189,8 @@ pub struct Made {
     pub aggregate: u64,
 }
 
-/// The compute phase of a superstep. `J` names the program's meaning.
-pub fn compute_phase<P: Program, J: Meant>(
+/// The compute phase of a superstep.
+pub fn compute_phase<P: Program>(
     alloc: Global,
     program: &P,
     now: &Now,
@@ -196,7 +198,6 @@ pub fn compute_phase<P: Program, J: Meant>(
     entries: &mut [Entry],
     v: &mut VertexBuf,
 ) -> Result<Made, StepEnd>
-    requires meant { P.meaning program.now ≡ J.meant }
     requires held { All (IsHeld v.old.room) entries.old }
 
     ensures rows { All (HasValidMessage (P.meaning program.now).message) entries.old
@@ -214,7 +215,7 @@ pub fn compute_phase<P: Program, J: Meant>(
     ensures room { v.new.room ≡ v.old.room }
     ensures frame_len { v.new.frame_len ≡ v.old.frame_len }
 {
-    let mut out = Posts::<P, J>::new(alloc, program, room);
+    let mut out = Posts::new(alloc, program, room);
     compute_all(alloc, program, now, entries, v, &mut out)?;
     let Posts {
         sends,

@@ -1,13 +1,12 @@
 // The text of a halted state, made in memory before any of it is written.
-ghost use Rattle.std.specs.Prelude.{◌≡◌, [], ◌∷◌, ◌++◌, All, OnOk, IfOk, decimal, codes, flat_map, IsTrue};
-ghost use Rattle.px_meaning.specs.OutputText.{edge_text, vertex_line};
+ghost use Rattle.std.specs.Prelude.{◌≡◌, [], ◌∷◌, ◌++◌, All, OnOk, IfOk};
+ghost use Rattle.px_meaning.specs.OutputText.{summary_line, vertex_line};
 ghost use Rattle.px_plain.specs.Entries.{IsHeld};
-ghost use Rattle.px_plain.specs.Texts.{summary_line, vertex_lines};
+ghost use Rattle.px_plain.specs.Texts.{vertex_lines};
 
 use crate::entry::Entry;
-use itoa::Buffer;
 use px_core::{Failed, Sink};
-use px_program::Program;
+use px_program::{Program, print_summary, print_vertex};
 use px_record::VertexBuf;
 use std::alloc::{AllocError, Global};
 
@@ -44,79 +43,18 @@ impl Text {
         }
     }
 
-    fn push(&mut self, more: &[u8]) -> Result<(), Failed>
-        ensures { OnOk result (self.new.bytes.items ≡ self.old.bytes.items ++ more.now) }
-    {
-        match self.bytes.extend_from_slice(more) {
-            Ok(()) => Ok(()),
-            Err(_) => Err(Failed),
-        }
-    }
-
-    fn push_number(&mut self, n: u64) -> Result<(), Failed>
-        ensures { OnOk result (self.new.bytes.items ≡ self.old.bytes.items ++ decimal n) }
-    {
-        let mut buffer = Buffer::new();
-        self.push(buffer.format(n).as_bytes())
-    }
-
-    // A space, the target, `:` and the weight.
-    fn push_edge(&mut self, dst: u64, weight: u32) -> Result<(), Failed>
-        ensures { OnOk result (self.new.bytes.items ≡ self.old.bytes.items ++ edge_text (dst, weight)) }
-    {
-        self.push(b" ")?;
-        self.push_number(dst)?;
-        self.push(b":")?;
-        self.push_number(u64::from(weight))?;
-        Ok(())
-    }
-
-    fn push_edges(&mut self, v: &VertexBuf) -> Result<(), Failed>
-        ensures { OnOk result (self.new.bytes.items ≡ self.old.bytes.items ++ flat_map edge_text v.now.vertex.edges) }
-    {
-        for i in 0..v.edges() {
-            let (dst, weight) = v.edge(i);
-            self.push_edge(dst, weight)?;
-        }
-        Ok(())
-    }
-
-    fn push_value<P: Program>(&mut self, program: &P, v: &VertexBuf) -> Result<(), Failed>
-        ensures { OnOk result (self.new.bytes.items ≡ self.old.bytes.items ++ (P.meaning program.now).value_text v.now.vertex) }
-    {
-        program.print_value(v, self)
-    }
-
     // The line of a vertex.
     fn push_vertex<P: Program>(&mut self, program: &P, v: &VertexBuf) -> Result<(), Failed>
         ensures { OnOk result (self.new.bytes.items ≡ self.old.bytes.items ++ vertex_line (P.meaning program.now) (v.now.vid, v.now.vertex)) }
     {
-        self.push_number(v.vid())?;
-        self.push(b" ")?;
-        self.push_value(program, v)?;
-        self.push_edges(v)?;
-        self.push(b"\n")?;
-        Ok(())
-    }
-
-    // A word and a number.
-    fn push_count(&mut self, word: &[u8], n: u64) -> Result<(), Failed>
-        ensures { OnOk result (self.new.bytes.items ≡ self.old.bytes.items ++ (word.now ++ decimal n)) }
-    {
-        self.push(word)?;
-        self.push_number(n)?;
-        Ok(())
+        print_vertex(program, v, self)
     }
 
     // The last line.
     fn push_summary(&mut self, superstep: u64, aggregate: u64, count: u64) -> Result<(), Failed>
         ensures { OnOk result (self.new.bytes.items ≡ self.old.bytes.items ++ summary_line superstep aggregate count) }
     {
-        self.push_count(b"#superstep ", superstep)?;
-        self.push_count(b" aggregate ", aggregate)?;
-        self.push_count(b" vertices ", count)?;
-        self.push(b"\n")?;
-        Ok(())
+        print_summary(superstep, aggregate, count, self)
     }
 
     // The lines of the entries that have a vertex.

@@ -25,7 +25,6 @@ use px_frames::{Buf, Wide};
 use px_program::{NoVerdict, Program};
 use px_record::VertexBuf;
 use std::alloc::{AllocError, AllocFailed, Global};
-use std::marker::Brand;
 use std::mem;
 
 // A superstep leaves at most so many vertices, and has at most so many sends.
@@ -168,7 +167,7 @@ impl<P: Program<Verdict = NoVerdict>> Job<P> {
     {
         no_verdicts(&self.program);
         let now = self.now();
-        compute_phase::<P, Brand>(alloc, &self.program, &now, self.room, &mut self.entries, v)
+        compute_phase(alloc, &self.program, &now, self.room, &mut self.entries, v)
     }
 
     // Gives what was sent to the entries, and takes the numbers of the next superstep.

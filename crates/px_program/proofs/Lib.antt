@@ -1,2 +1,5 @@
-pub mod SaturatingSums
 pub mod NumberRules
+pub mod Phases
+pub mod Printing
+pub mod SaturatingSums
+pub mod Weaving

@@ -1,5 +1,8 @@
-pub mod Posted
 pub mod Calls
 pub mod NoVerdict
-pub mod Saturating
 pub mod Numbers
+pub mod Groups
+pub mod Regrouping
+pub mod Phase
+pub mod Posted
+pub mod Saturating

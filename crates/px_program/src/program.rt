@@ -1,11 +1,11 @@
 // Programs: what a vertex computes in a superstep.
-ghost use Rattle.std.specs.Prelude.{◌≡◌, ◌≢◌, ◌⊎◌, ◌↔◌, ℕ, List, ◌++◌, take, false, ◌<◌, ◌≤◌, OnOk, OnErr, IfOk, IsTrue, IsErr, option_copied, Some, None, if◌then◌else◌};
+ghost use Rattle.std.specs.Prelude.{◌≡◌, ◌↔◌, ℕ, List, ◌++◌, take, false, ◌<◌, ◌≤◌, OnOk, OnErr, IfOk, IfErr, IsTrue, IsErr, option_copied, Some, None, if◌then◌else◌};
 ghost use Rattle.px_core.specs.Counts.{Rose};
 ghost use Rattle.px_meaning.specs.Graph.{fresh, vertex_size};
 ghost use Rattle.px_meaning.specs.Merge.{IsValidMessage};
 ghost use Rattle.px_meaning.specs.Program.{ProgramMeaning, ProgramLaws};
 ghost use Rattle.px_record.specs.Held.{SameRecord};
-ghost use Rattle.px_program.specs.Posted.{Posted, with_out, IsPartOf, IsBeyond};
+ghost use Rattle.px_program.specs.Posted.{Posted, with_out, StaysOpen, StopsComputing};
 ghost use Rattle.px_program.specs.Calls.{answer, Applies, is_too_wide};
 
 use crate::{Merge, Outbox};
@@ -65,25 +65,13 @@ pub trait Program: Drop {
             → OnOk result (v.new ≡ record v.old { vertex = (answer (meaning self.now) at.now v.old (option_copied msg.entry)).vertex }) }
         ensures posted { IsValidMessage (meaning self.now).message (option_copied msg.entry)
             → OnOk result ((p : Posted) → O.took out.old p → O.took out.new (with_out (answer (meaning self.now) at.now v.old (option_copied msg.entry)) p)) }
-        ensures open { OnOk result (IsTrue (O.is_open out.new)) }
+        ensures open { OnOk result (StaysOpen (O.is_open out.new) (O.faults out.old) (O.faults out.new)) }
         ensures fits { OnOk result (vertex_size v.new.vertex ≤ v.new.room) }
 
-        // What was taken before a stop begins what is answered.
-        ensures stopped { IsValidMessage (meaning self.now).message (option_copied msg.entry)
-            → OnErr result ((p : Posted) → O.took out.old p
-            → (made : Posted) × IsPartOf (answer (meaning self.now) at.now v.old (option_copied msg.entry)) p made × O.took out.new made) }
-
-        // The new vertex is above room, or what was made so far is beyond the limits, the refused pair included.
-        ensures beyond { IsValidMessage (meaning self.now).message (option_copied msg.entry) → result ≡ Err Stop.Beyond →
+        ensures err { IfErr result (StopsComputing (IsValidMessage (meaning self.now).message (option_copied msg.entry))
             (v.old.room < vertex_size (answer (meaning self.now) at.now v.old (option_copied msg.entry)).vertex)
-            ⊎ ((p : Posted) → O.took out.old p
-            → (made : Posted) × IsPartOf (answer (meaning self.now) at.now v.old (option_copied msg.entry)) p made × IsBeyond (O.made_for out.old) made) }
-        ensures scratch { result ≡ Err Stop.Scratch → Rose (O.faults out.old) (O.faults out.new) }
-        ensures no_fault { result ≢ Err Stop.Scratch → O.faults out.new ≡ O.faults out.old }
-        ensures no_graph { result ≢ Err Stop.Graph }
-
+            (O.took out.old) (O.took out.new) (answer (meaning self.now) at.now v.old (option_copied msg.entry)) (O.made_for out.old) (O.is_open out.new) (O.faults out.old) (O.faults out.new)) }
         ensures record_stays { SameRecord v.old v.new }
-        ensures faults { O.faults out.old ≤ O.faults out.new }
         ensures stays { O.made_for out.new ≡ O.made_for out.old };
 
     /// Decides what a vid's folded verdict does to its vertex, which `v` holds, or to the fresh vertex where there is none.
@@ -110,8 +98,7 @@ pub trait Program: Drop {
         ensures ok { OnOk result ((h : List ℕ) → W.holds sink.old h → W.holds sink.new (h ++ (meaning self.now).value_text v.now.vertex)) }
         ensures err { OnErr result ((h : List ℕ) → W.holds sink.old h → (n : ℕ) × W.holds sink.new (h ++ take n ((meaning self.now).value_text v.now.vertex))) }
         ensures cause { OnErr result (Rose (W.faults sink.old) (W.faults sink.new)) }
-        ensures no_fault { OnOk result (W.faults sink.new ≡ W.faults sink.old) }
-        ensures faults { W.faults sink.old ≤ W.faults sink.new };
+        ensures no_fault { OnOk result (W.faults sink.new ≡ W.faults sink.old) };
 
     ghost laws: { (p : Self) → ProgramLaws (meaning p) };
 }

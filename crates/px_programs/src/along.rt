@@ -1,8 +1,7 @@
 // Sending along the edges of a vertex.
-ghost use Rattle.std.specs.Prelude.{◌≡◌, ◌≢◌, ◌≤◌, ℕ, OnOk, OnErr, IsTrue};
-ghost use Rattle.px_core.specs.Counts.{Rose};
+ghost use Rattle.std.specs.Prelude.{◌≡◌, OnOk, IfErr, IsTrue};
 ghost use Rattle.px_program.specs.Numbers.{num, is_num, lesser_rule};
-ghost use Rattle.px_program.specs.Posted.{Posted, contributed, IsBeyond};
+ghost use Rattle.px_program.specs.Posted.{Posted, contributed, StaysOpen, StopsPosting};
 ghost use Rattle.px_program.specs.Saturating.{saturating_sum};
 ghost use Rattle.px_record.specs.Held.{IsWithin};
 ghost use Rattle.px_programs.specs.Along.{along, distances, with_sends, SendsPart};
@@ -18,13 +17,8 @@ pub fn send_along<O: Outbox>(v: &VertexBuf, payload: &[u8], out: &mut O) -> Resu
     requires valid { IsTrue ((O.made_for out.old).message.valid payload.now) }
 
     ensures ok { OnOk result ((p : Posted) → O.took out.old p → O.took out.new (with_sends (along payload.now v.now.vertex.edges) p)) }
-    ensures open { OnOk result (IsTrue (O.is_open out.new)) }
-    ensures err { OnErr result ((p : Posted) → O.took out.old p → (made : Posted) × SendsPart (along payload.now v.now.vertex.edges) p made × O.took out.new made) }
-    ensures beyond { result ≡ Err Stop.Beyond → (p : Posted) → O.took out.old p → (made : Posted) × SendsPart (along payload.now v.now.vertex.edges) p made × IsBeyond (O.made_for out.old) made }
-    ensures scratch { result ≡ Err Stop.Scratch → Rose (O.faults out.old) (O.faults out.new) }
-    ensures no_fault { result ≢ Err Stop.Scratch → O.faults out.new ≡ O.faults out.old }
-    ensures no_graph { result ≢ Err Stop.Graph }
-    ensures faults { O.faults out.old ≤ O.faults out.new }
+    ensures open { OnOk result (StaysOpen (O.is_open out.new) (O.faults out.old) (O.faults out.new)) }
+    ensures err { IfErr result (StopsPosting (O.took out.old) (O.took out.new) (SendsPart (along payload.now v.now.vertex.edges)) (O.made_for out.old) (O.is_open out.new) (O.faults out.old) (O.faults out.new)) }
     ensures stays { O.made_for out.new ≡ O.made_for out.old }
     ensures within { IsWithin v.now }
 {
@@ -41,13 +35,8 @@ pub fn post_along<O: Outbox>(v: &VertexBuf, n: u64, payload: &[u8], out: &mut O)
     requires valid { IsTrue ((O.made_for out.old).message.valid payload.now) }
 
     ensures ok { OnOk result ((p : Posted) → O.took out.old p → O.took out.new (with_sends (along payload.now v.now.vertex.edges) (contributed n p))) }
-    ensures open { OnOk result (IsTrue (O.is_open out.new)) }
-    ensures err { OnErr result ((p : Posted) → O.took out.old p → (made : Posted) × SendsPart (along payload.now v.now.vertex.edges) (contributed n p) made × O.took out.new made) }
-    ensures beyond { result ≡ Err Stop.Beyond → (p : Posted) → O.took out.old p → (made : Posted) × SendsPart (along payload.now v.now.vertex.edges) (contributed n p) made × IsBeyond (O.made_for out.old) made }
-    ensures scratch { result ≡ Err Stop.Scratch → Rose (O.faults out.old) (O.faults out.new) }
-    ensures no_fault { result ≢ Err Stop.Scratch → O.faults out.new ≡ O.faults out.old }
-    ensures no_graph { result ≢ Err Stop.Graph }
-    ensures faults { O.faults out.old ≤ O.faults out.new }
+    ensures open { OnOk result (StaysOpen (O.is_open out.new) (O.faults out.old) (O.faults out.new)) }
+    ensures err { IfErr result (StopsPosting (O.took out.old) (O.took out.new) (λ p. SendsPart (along payload.now v.now.vertex.edges) (contributed n p)) (O.made_for out.old) (O.is_open out.new) (O.faults out.old) (O.faults out.new)) }
     ensures stays { O.made_for out.new ≡ O.made_for out.old }
     ensures within { IsWithin v.now }
 {
@@ -69,13 +58,8 @@ pub fn send_distances<O: Outbox>(v: &VertexBuf, d: u64, out: &mut O) -> Result<(
     requires message { (O.made_for out.old).message ≡ lesser_rule }
 
     ensures ok { OnOk result ((p : Posted) → O.took out.old p → O.took out.new (with_sends (distances d v.now.vertex.edges) p)) }
-    ensures open { OnOk result (IsTrue (O.is_open out.new)) }
-    ensures err { OnErr result ((p : Posted) → O.took out.old p → (made : Posted) × SendsPart (distances d v.now.vertex.edges) p made × O.took out.new made) }
-    ensures beyond { result ≡ Err Stop.Beyond → (p : Posted) → O.took out.old p → (made : Posted) × SendsPart (distances d v.now.vertex.edges) p made × IsBeyond (O.made_for out.old) made }
-    ensures scratch { result ≡ Err Stop.Scratch → Rose (O.faults out.old) (O.faults out.new) }
-    ensures no_fault { result ≢ Err Stop.Scratch → O.faults out.new ≡ O.faults out.old }
-    ensures no_graph { result ≢ Err Stop.Graph }
-    ensures faults { O.faults out.old ≤ O.faults out.new }
+    ensures open { OnOk result (StaysOpen (O.is_open out.new) (O.faults out.old) (O.faults out.new)) }
+    ensures err { IfErr result (StopsPosting (O.took out.old) (O.took out.new) (SendsPart (distances d v.now.vertex.edges)) (O.made_for out.old) (O.is_open out.new) (O.faults out.old) (O.faults out.new)) }
     ensures stays { O.made_for out.new ≡ O.made_for out.old }
     ensures within { IsWithin v.now }
 {

@@ -1,13 +1,13 @@
 // Numbers as values and as messages: eight bytes, the highest first.
-ghost use Rattle.std.specs.Prelude.{◌≡◌, ◌≤◌, ℕ, List, ◌++◌, take, length, decimal, IsTrue, OnOk, OnErr, option_copied, option_map};
+ghost use Rattle.std.specs.Prelude.{◌≡◌, ℕ, List, ◌++◌, take, length, IsTrue, OnOk, OnErr, option_copied, option_map};
 ghost use Rattle.px_core.specs.Counts.{Rose};
 ghost use Rattle.px_meaning.specs.Merge.{IsValidMessage};
 ghost use Rattle.px_program.specs.Numbers.{num, number, number_in, is_num, lesser_rule};
 ghost use Rattle.px_programs.specs.Answers.{decimal_or_dash};
 
 use byteorder::{BigEndian, ByteOrder};
-use itoa::Buffer;
 use px_core::{Failed, Sink, write_all};
+use px_program::print_decimal;
 
 /// The number, where there are eight bytes.
 #[tactic(auto, unfolding(px_program::specs::Numbers::number))]
@@ -42,25 +42,12 @@ pub fn heard(msg: Option<&[u8]>) -> Option<u64>
     }
 }
 
-/// Writes a number in decimal.
-pub fn print_decimal<W: Sink>(n: u64, sink: &mut W) -> Result<(), Failed>
-    ensures ok { OnOk result ((h : List ℕ) → W.holds sink.old h → W.holds sink.new (h ++ decimal n)) }
-    ensures err { OnErr result ((h : List ℕ) → W.holds sink.old h → (k : ℕ) × W.holds sink.new (h ++ take k (decimal n))) }
-    ensures cause { OnErr result (Rose (W.faults sink.old) (W.faults sink.new)) }
-    ensures no_fault { OnOk result (W.faults sink.new ≡ W.faults sink.old) }
-    ensures faults { W.faults sink.old ≤ W.faults sink.new }
-{
-    let mut buffer = Buffer::new();
-    write_all(sink, buffer.format(n).as_bytes())
-}
-
 /// Writes a number in decimal, or a dash for none.
 pub fn print_number<W: Sink>(n: Option<u64>, sink: &mut W) -> Result<(), Failed>
     ensures ok { OnOk result ((h : List ℕ) → W.holds sink.old h → W.holds sink.new (h ++ decimal_or_dash n)) }
     ensures err { OnErr result ((h : List ℕ) → W.holds sink.old h → (k : ℕ) × W.holds sink.new (h ++ take k (decimal_or_dash n))) }
     ensures cause { OnErr result (Rose (W.faults sink.old) (W.faults sink.new)) }
     ensures no_fault { OnOk result (W.faults sink.new ≡ W.faults sink.old) }
-    ensures faults { W.faults sink.old ≤ W.faults sink.new }
 {
     match n {
         Some(n) => print_decimal(n, sink),

@@ -10,10 +10,10 @@ ghost use Rattle.px_programs.specs.Steps.{taken};
 
 use crate::along::send_distances;
 use crate::lesser::Lesser;
-use crate::numbers::{bytes_of, heard, number_of, print_decimal};
+use crate::numbers::{bytes_of, heard, number_of};
 use px_core::{Failed, Sink, Stop, write_all};
 use px_frames::Wide;
-use px_program::{At, NoVerdict, Outbox, Program, Settled};
+use px_program::{At, NoVerdict, Outbox, Program, Settled, print_decimal};
 use px_record::VertexBuf;
 
 // The value of a vertex to which no path is known.

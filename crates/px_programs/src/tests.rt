@@ -1,7 +1,8 @@
 // Merges, printed values, and one step of each program over an outbox in memory.
-ghost use Rattle.std.specs.Prelude.{◌≡◌, true, false, IfOk};
+ghost use Rattle.std.specs.Prelude.{◌≡◌, [], true, false, IfOk};
 ghost use Rattle.px_program.specs.NoVerdict.{no_verdict_rule};
 ghost use Rattle.px_program.specs.Posted.{MadeFor};
+ghost use Rattle.px_program.specs.Saturating.{saturating_sum};
 
 use crate::{Components, Empty, Lesser, PageRank, Reach, Sssp, Sum};
 use px_core::{MemSink, Stop, Vid};
@@ -46,7 +47,7 @@ fn number(bytes: &[u8]) -> u64 {
 impl<M: Merge> Outbox for Posts<M> {
     ghost took = { λ o p. ⊥ };
 
-    ghost made_for = { λ o. record { message = M.rule o.message; verdict = no_verdict_rule; room = 112 } };
+    ghost made_for = { λ o. record { message = M.rule o.message; verdict = no_verdict_rule; room = 112; unit = 0; join = saturating_sum; lent = [] } };
 
     ghost faults = { λ o. 0 };
 
@@ -182,50 +183,92 @@ fn at(superstep: u64) -> At
     }
 }
 
-#[test]
-fn sssp_adds_weights(rt: HostRuntime) -> Result<(), Fail> {
-    let mut v = vertex(rt.alloc(), 1, &[255; 8])?;
-    let mut out = Posts::new(Lesser);
-    let two = [0, 0, 0, 0, 0, 0, 0, 2];
-    assert_eq!(rt;
-        Sssp::new(8).compute(&at(3), &mut v, Some(&two), &mut out),
-        Ok(())
-    );
-    assert_eq!(rt; v.value(), two.as_slice());
-    assert_eq!(rt; out.sends, 2);
-    assert_eq!(rt; &out.pairs[..2], [(7, 5), (9, 7)].as_slice());
-    assert_eq!(rt; out.contributed, Some(1));
-    Ok(())
+/// What a step came to: how it ended, the vertex after it, and what it sent and contributed.
+#[derive(Drop, Debug, PartialEq, Eq)]
+struct Step {
+    result: Result<(), Stop>,
+    value: u64,
+    halt: bool,
+    pairs: [(Vid, u64); 2],
+    sends: usize,
+    contributed: Option<u64>,
 }
 
-#[test]
-fn components_starts_with_the_vid(rt: HostRuntime) -> Result<(), Fail> {
-    let mut v = vertex(rt.alloc(), 6, b"abc")?;
-    let mut out = Posts::new(Lesser);
-    assert_eq!(rt;
-        Components::new().compute(&at(0), &mut v, None, &mut out),
-        Ok(())
-    );
-    assert_eq!(rt; v.value(), [0, 0, 0, 0, 0, 0, 0, 6].as_slice());
-    assert_eq!(rt; &out.pairs[..2], [(7, 6), (9, 6)].as_slice());
-    Ok(())
+// One step of vertex 6, which has this value.
+fn compute<P: Program>(
+    alloc: Global,
+    program: &P,
+    mut out: Posts<P::Message>,
+    superstep: u64,
+    value: &[u8],
+    msg: Option<&[u8]>,
+) -> Result<Step, AllocError>
+    requires message { P.Message.rule out.message ≡ (P.meaning program.now).message }
+    requires verdict { no_verdict_rule ≡ (P.meaning program.now).verdict }
+{
+    let mut v = vertex(alloc, 6, value)?;
+    let result = program.compute(&at(superstep), &mut v, msg, &mut out);
+    Ok(Step {
+        result,
+        value: number(v.value()),
+        halt: v.halt(),
+        pairs: [out.pairs[0], out.pairs[1]],
+        sends: out.sends,
+        contributed: out.contributed,
+    })
 }
 
+// A step that sends along both edges, and ends with this value.
+fn sending(value: u64, pairs: [(Vid, u64); 2], contributed: u64) -> Step {
+    Step {
+        result: Ok(()),
+        value,
+        halt: true,
+        pairs,
+        sends: 2,
+        contributed: Some(contributed),
+    }
+}
+
+// sssp adds weights, components starts with the vid, and pagerank shares its rank.
 #[test]
-fn pagerank_shares_its_rank(rt: HostRuntime) -> Result<(), Fail> {
-    let mut v = vertex(rt.alloc(), 6, b"")?;
-    let mut out = Posts::new(Sum);
+fn steps(rt: HostRuntime) -> Result<(), Fail> {
+    let alloc = rt.alloc();
     let sum = 1_000_000_000u64.to_be_bytes();
+    let shorter = compute(
+        alloc,
+        &Sssp::new(8),
+        Posts::new(Lesser),
+        3,
+        &MOST,
+        Some(&TWO),
+    )?;
+    assert_eq!(rt; shorter, sending(2, [(7, 5), (9, 7)], 1));
+    let first = compute(
+        alloc,
+        &Components::new(),
+        Posts::new(Lesser),
+        0,
+        b"abc",
+        None,
+    )?;
+    assert_eq!(rt; first, sending(6, [(7, 6), (9, 6)], 1));
+    let ranked = compute(
+        alloc,
+        &PageRank::new(2),
+        Posts::new(Sum),
+        1,
+        b"",
+        Some(&sum),
+    )?;
+    let pairs = [(7, 19_175_000_000), (9, 19_175_000_000)];
+    let halt = false;
     assert_eq!(rt;
-        PageRank::new(2).compute(&at(1), &mut v, Some(&sum), &mut out),
-        Ok(())
+        ranked,
+        Step {
+            halt,
+            ..sending(38_350_000_000, pairs, 38_350_000_000)
+        }
     );
-    assert_eq!(rt; number(v.value()), 37_500_000_000 + 850_000_000);
-    assert_eq!(rt;
-        &out.pairs[..2],
-        [(7, 19_175_000_000), (9, 19_175_000_000)].as_slice()
-    );
-    assert_eq!(rt; out.contributed, Some(38_350_000_000));
-    assert!(rt; !v.halt());
     Ok(())
 }

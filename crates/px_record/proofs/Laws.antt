@@ -79,13 +79,13 @@ is_vertex_body-body_of x is =
     both _ _ first second
 
 -- what the test says
-pub record IsBody (body : List ℕ) : Type 0 where
+pub record IsShape (body : List ℕ) : Type 0 where
   pub halt : slice_index body 0 < 2
   pub len : body_len (value_len_of body) (edge_count_of body) ≡ length body
 
-pub IsBody-from_test : (body : List ℕ) → is_vertex_body body ≡ true → IsBody body
+pub IsShape-from_test : (body : List ℕ) → is_vertex_body body ≡ true → IsShape body
 unfolding is_vertex_body
-IsBody-from_test body is = record { halt = grind (arith, nat_tests); len = grind (arith, nat_tests) }
+IsShape-from_test body is = record { halt = grind (arith, nat_tests); len = grind (arith, nat_tests) }
 
 -- so many bytes of value, and so many edges
 pub length-value_in : (halt : Bool) (value edges : ℕ) (bytes : List ℕ) → 9 + value ≤ length bytes → length (vertex_in halt value edges bytes).value ≡ value
@@ -95,7 +95,7 @@ length-value_in halt value edges bytes long = length-take-le value (drop 9 bytes
 pub IsVertex-of_body : (body : List ℕ) → AreBytes body → is_vertex_body body ≡ true → IsVertex (vertex_of body)
 unfolding vertex_of
 IsVertex-of_body body all is =
-    let shape = IsBody-from_test body is in
+    let shape = IsShape-from_test body is in
     let value = big_from-lt 0 4 (drop 1 body) (bytes-drop 1 body all) in
     let edges = big_from-lt 0 4 (drop 5 body) (bytes-drop 5 body all) in
     let len = length-value_in (slice_index body 0 == 1) (value_len_of body) (edge_count_of body) body (omega (arith, shape.len)) in
@@ -144,7 +144,7 @@ found b v e all small len value edges =
 pub body_of-vertex_of : (body : List ℕ) → AreBytes body → is_vertex_body body ≡ true → body_of (vertex_of body) ≡ body
 unfolding body_of vertex_of
 body_of-vertex_of body all is =
-    let shape = IsBody-from_test body is in
+    let shape = IsShape-from_test body is in
     let v = value_len_of body in
     let e = edge_count_of body in
     let rest = drop v (drop 9 body) in

@@ -4,7 +4,7 @@
 mod body;
 mod vertex;
 
-pub use vertex::VertexBuf;
+pub use vertex::{FRONT, VertexBuf};
 
 #[cfg(test)]
 mod tests;

@@ -8,8 +8,8 @@ use crate::body::{EDGE, FRESH, HEADER, Header, add_edge, edge_at, put_body, put_
 use px_frames::{Frame, Wide};
 use std::marker::Model;
 
-// What a stored record has before its body.
-const FRONT: usize = 13;
+/// How many bytes a stored record or pair has before its body or payload.
+pub const FRONT: usize = 13;
 
 /// One vertex within its room, in the bytes that it is stored as.
 #[derive(Drop)]
@@ -88,6 +88,7 @@ impl VertexBuf {
         ensures body { result.now ≡ body_of self.now.vertex }
         ensures valid { IsTrue (is_vertex_body result.now) }
         ensures spells { vertex_of result.now ≡ self.now.vertex }
+        ensures len { 13 + length result.now ≡ vertex_size self.now.vertex }
         ensures within { IsWithin self.now }
     {
         &self.frame.bytes()[..self.header.body_len()]

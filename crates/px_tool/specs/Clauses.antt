@@ -50,6 +50,14 @@ abbrev pub line_owed : ℕ → Due → List ℕ
 line_owed status owed =
     if status == 8 then line_of Source else if status == 9 then line_of Sink else if status == 10 then line_of Memory else line_of (ending_of owed)
 
+-- the statuses that each have one line on the error sink, whatever is owed
+abbrev pub HasOwnLine : ℕ → Type 0
+HasOwnLine status = IsTrue (status == 1 || status == 8 || status == 9 || status == 10)
+
+-- and that line
+abbrev pub own_line : ℕ → List ℕ
+own_line status = if status == 1 then line_of Usage else if status == 8 then line_of Source else if status == 9 then line_of Sink else line_of Memory
+
 -- how a job on a graph ends without a text: as is owed, beyond the limits or not halted, or for want of memory
 abbrev pub IsRunEnding : Ending → Ending → Type 0
 IsRunEnding Done owed = ⊥

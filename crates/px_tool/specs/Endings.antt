@@ -1,7 +1,8 @@
 -- How a run ends: its status, and its line on the error sink.
-use Rattle.std.specs.Prelude.{ℕ, List, [], ◌++◌, codes, decimal}
+use Rattle.std.specs.Prelude.{ℕ, List, [], ◌++◌, codes, decimal, Some, None}
 use Rattle.px_meaning.specs.Line as grammar
-use Rattle.px_tool.specs.Due.{Due, DueUsage, DueBad, DueTwice, DueBeyond, DueLimit, DueText}
+use Rattle.px_meaning.specs.Due.{DueBad, DueTwice, DueBeyond, DueLimit, DueText}
+use Rattle.px_tool.specs.Due.{Due}
 use Rattle.px_graph_text.specs.declared.refusal.Kind.{Kind}
 use Rattle.px_graph_text.specs.declared.refusal.Kind.TheVariants.{Form, Number, Wide, Long}
 use Rattle.px_tool.specs.declared.ending.Ending.{Ending}
@@ -16,21 +17,21 @@ kind_named grammar.Long = Long
 
 -- how a run ends that owes this, where no device fails and there is memory
 abbrev pub ending_of : Due → Ending
-ending_of DueUsage = Usage
-ending_of (DueBad line kind) = Bad line (kind_named kind)
-ending_of (DueTwice v) = Twice v
-ending_of (DueBeyond s) = Beyond s
-ending_of (DueLimit n) = Limit n
-ending_of (DueText text) = Done
+ending_of None = Usage
+ending_of (Some (DueBad line kind)) = Bad line (kind_named kind)
+ending_of (Some (DueTwice v)) = Twice v
+ending_of (Some (DueBeyond s)) = Beyond s
+ending_of (Some (DueLimit n)) = Limit n
+ending_of (Some (DueText text)) = Done
 
 -- the text that is owed, where the run halts
 abbrev pub text_owed : Due → List ℕ
-text_owed DueUsage = []
-text_owed (DueBad line kind) = []
-text_owed (DueTwice v) = []
-text_owed (DueBeyond s) = []
-text_owed (DueLimit n) = []
-text_owed (DueText text) = text
+text_owed None = []
+text_owed (Some (DueBad line kind)) = []
+text_owed (Some (DueTwice v)) = []
+text_owed (Some (DueBeyond s)) = []
+text_owed (Some (DueLimit n)) = []
+text_owed (Some (DueText text)) = text
 
 abbrev pub status_of : Ending → ℕ
 status_of Done = 0

@@ -3,11 +3,8 @@ ghost use Rattle.std.specs.Prelude.{◌≡◌, ◌+◌, ◌≤◌, length};
 ghost use Rattle.px_tool.specs.Endings.{status_of, line_of, kind_text as text_of_kind, decimal_line};
 
 use arrayvec::ArrayString;
-use itoa::Buffer;
 use px_graph_text::Kind;
-
-/// The most bytes of a line on the error sink.
-pub const MOST: usize = 192;
+use px_program::{MOST_OF_LINE, line_with, push_decimal};
 
 // The end of the line that names a kind of refusal.
 fn kind_text(kind: Kind) -> &'static str
@@ -46,24 +43,13 @@ pub enum Ending {
 }
 
 // A line that has a number in it.
-fn with_number(before: &str, n: u64, after: &str) -> ArrayString<MOST>
+fn with_number(before: &str, n: u64, after: &str) -> ArrayString<MOST_OF_LINE>
     requires { length before.now + length after.now ≤ 128 }
     ensures { result.bytes ≡ decimal_line before.now n after.now }
 {
     let mut line = line_with(before);
-    let mut buffer = Buffer::new();
-    let _ = line.try_push_str(buffer.format(n));
+    push_decimal(&mut line, n);
     let _ = line.try_push_str(after);
-    line
-}
-
-// A line of one text.
-fn line_with(text: &str) -> ArrayString<MOST>
-    requires { length text.now ≤ 128 }
-    ensures { result.bytes ≡ text.now }
-{
-    let mut line = ArrayString::new();
-    let _ = line.try_push_str(text);
     line
 }
 
@@ -86,7 +72,7 @@ impl Ending {
     }
 
     /// The line on the error sink, which is empty where the run halted.
-    pub fn line(self) -> ArrayString<MOST>
+    pub fn line(self) -> ArrayString<MOST_OF_LINE>
         ensures { result.bytes ≡ line_of self }
     {
         match self {

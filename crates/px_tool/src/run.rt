@@ -7,7 +7,7 @@ ghost use Rattle.px_plain.specs.Reading.{IsGiven};
 ghost use Rattle.px_plain.specs.Texts.{graph_in};
 ghost use Rattle.px_tool.specs.Due.{due, words_of, DueText, frame_bytes, most_bytes};
 ghost use Rattle.px_tool.specs.Endings.{ending_of, text_owed, status_of, line_of};
-ghost use Rattle.px_tool.specs.Clauses.{IsDecided, IsAfterInput, Grew, IsStatus, line_owed, read_ending, IsReadEnding, IsRefusal};
+ghost use Rattle.px_tool.specs.Clauses.{IsDecided, IsAfterInput, Grew, IsStatus, line_owed, HasOwnLine, own_line, read_ending, IsReadEnding, IsRefusal};
 ghost use Rattle.px_tool.specs.Words.{job_of};
 
 use crate::ending::Ending;
@@ -53,7 +53,6 @@ fn read_entries<R: Source>(
     ensures read_whole { IfErr result (λ e. IsAfterInput e → (l : List ℕ) → R.left source.old l → R.left source.new []) }
     ensures source { result ≡ Err Ending.Source → Rose (R.faults source.old) (R.faults source.new) }
     ensures no_fault { result ≢ Err Ending.Source → R.faults source.new ≡ R.faults source.old }
-    ensures faults { R.faults source.old ≤ R.faults source.new }
     ensures room { v.new.room ≡ v.old.room }
 {
     let Ok(frame) = Frame::new(alloc, frame_bytes) else {
@@ -82,7 +81,6 @@ fn answer<R: Source, T: Turns>(
     ensures unread { result ≡ Err Ending.Usage → source.new ≡ source.old }
     ensures cause { result ≡ Err Ending.Source → Rose (R.faults source.old) (R.faults source.new) }
     ensures no_fault { result ≢ Err Ending.Source → R.faults source.new ≡ R.faults source.old }
-    ensures faults { R.faults source.old ≤ R.faults source.new }
 {
     let Some(job) = read_words(words) else {
         return Err(Ending::Usage);
@@ -102,7 +100,6 @@ fn write_text<W: Sink>(text: &[u8], out: &mut W) -> Ending
     ensures cause { result ≡ Ending.Sink → Rose (W.faults out.old) (W.faults out.new) }
     ensures no_fault { result ≢ Ending.Sink → W.faults out.new ≡ W.faults out.old }
     ensures either { (result ≡ Ending.Done) ⊎ (result ≡ Ending.Sink) }
-    ensures faults { W.faults out.old ≤ W.faults out.new }
 {
     match write_all(out, text) {
         Ok(()) => Ending::Done,
@@ -130,8 +127,6 @@ fn run_to_end<R: Source, W: Sink, T: Turns>(
     ensures sink_cause { result ≡ Ending.Sink → Rose (W.faults out.old) (W.faults out.new) }
     ensures source_no_fault { result ≢ Ending.Source → R.faults source.new ≡ R.faults source.old }
     ensures sink_no_fault { result ≢ Ending.Sink → W.faults out.new ≡ W.faults out.old }
-    ensures source_faults { R.faults source.old ≤ R.faults source.new }
-    ensures sink_faults { W.faults out.old ≤ W.faults out.new }
 {
     match answer(alloc, words, source, turns) {
         Ok(text) => write_text(&text, out),
@@ -139,11 +134,10 @@ fn run_to_end<R: Source, W: Sink, T: Turns>(
     }
 }
 
-// Writes the line of an ending. A failure there changes no status.
-fn report<E: Sink>(ending: Ending, errs: &mut E)
+/// Writes the line of an ending. A failure there changes no status.
+pub fn report<E: Sink>(ending: Ending, errs: &mut E)
     ensures quiet { ending ≡ Ending.Done → errs.new ≡ errs.old }
     ensures line { ending ≢ Ending.Done → (e : List ℕ) → E.holds errs.old e → Grew (E.holds errs.new) (E.faults errs.old) (E.faults errs.new) e (line_of ending) }
-    ensures faults { E.faults errs.old ≤ E.faults errs.new }
 {
     if ending != Ending::Done {
         let line = ending.line();
@@ -168,7 +162,7 @@ pub fn px_run<R: Source, W: Sink, E: Sink, G: Disk, S: Disk, T: Turns>(
     ensures status { result < 6 → (l : List ℕ) → R.left source.old l → result ≡ status_of (ending_of (due (words_of words.now) l)) }
     ensures usage { result ≡ 1 ↔ (job_of (words_of words.now) ≡ None) }
 
-    // Where no fault rose and there was memory, it is given.
+    // Where no fault rose, and the answer is not want of memory, it is the one owed.
     ensures complete { (Rose (R.faults source.old) (R.faults source.new) → ⊥) → (Rose (W.faults out.old) (W.faults out.new) → ⊥) → result ≢ 10
         → (l : List ℕ) → R.left source.old l → result ≡ status_of (ending_of (due (words_of words.now) l)) }
 
@@ -194,6 +188,7 @@ pub fn px_run<R: Source, W: Sink, E: Sink, G: Disk, S: Disk, T: Turns>(
     ensures quiet { result ≡ 0 → errs.new ≡ errs.old }
     ensures line { result ≢ 0 → (l e : List ℕ) → R.left source.old l → E.holds errs.old e
         → Grew (E.holds errs.new) (E.faults errs.old) (E.faults errs.new) e (line_owed result (due (words_of words.now) l)) }
+    ensures own_line { HasOwnLine result → (e : List ℕ) → E.holds errs.old e → Grew (E.holds errs.new) (E.faults errs.old) (E.faults errs.new) e (own_line result) }
 {
     let _ = graph;
     let _ = scratch;

@@ -1,6 +1,6 @@
 use Rattle.std.proofs.Common.{◌≡◌, ◌++◌, ℕ, map, length, All}
 use Rattle.px_plain.specs.Entries.{pairs_of, rows_of, IsHeld}
-use Rattle.px_plain.specs.Attached.{fresh_row, below, not_below}
+use Rattle.px_meaning.specs.Attached.{fresh_row, below, not_below}
 use Rattle.px_plain.proofs.attach.add_below.Given as goal
 
 -- what is still to be added goes behind what was

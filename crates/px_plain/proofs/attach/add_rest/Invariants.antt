@@ -1,6 +1,6 @@
 use Rattle.std.proofs.Common.{◌≡◌, ◌++◌, ℕ, map, All}
 use Rattle.px_plain.specs.Entries.{pairs_of, rows_of, IsHeld}
-use Rattle.px_plain.specs.Attached.{fresh_row}
+use Rattle.px_meaning.specs.Attached.{fresh_row}
 use Rattle.px_plain.proofs.attach.add_rest.Given as goal
 
 -- an entry was made of each letter so far

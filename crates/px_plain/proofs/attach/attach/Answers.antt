@@ -5,8 +5,8 @@ use Rattle.std.specs.Vec.Iter.{into_iter_items}
 use Rattle.px_meaning.specs.Program.{Row}
 use Rattle.px_plain.specs.declared.entry.Entry.{Entry}
 use Rattle.px_plain.specs.Entries.{pairs_of, rows_of, IsHeld}
-use Rattle.px_plain.specs.Attached.{attached}
-use Rattle.px_plain.proofs.Attaching.{attached_is_joined}
+use Rattle.px_meaning.specs.Attached.{attached}
+use Rattle.px_meaning.proofs.Attaching.{attached_is_joined}
 use Rattle.px_plain.proofs.attach.attach.Goals as goal
 
 pub loop-entry-preserved : goal.loop-entry-preserved

@@ -1,7 +1,7 @@
 use Rattle.std.proofs.Common.{◌≡◌, ◌++◌, ℕ, All}
 use Rattle.std.specs.Vec.Iter.{into_iter_items}
 use Rattle.px_plain.specs.Entries.{pairs_of, rows_of, IsHeld}
-use Rattle.px_plain.specs.Attached.{attached}
+use Rattle.px_meaning.specs.Attached.{attached}
 use Rattle.px_plain.proofs.attach.attach.Given as goal
 
 -- what is still to be attached goes behind what was

@@ -21,4 +21,4 @@ returns-in_err-compute-clause-beyond g c = λ valid is.
     let end = err_from_is_err_and c.from_residual.result c.from_residual.ensures.1 in
     let stop = stop_is_beyond c.in_err-compute.field-0.0 end.0 c.from_residual.result end.1 end.2 is in
     let Q : ℕ → Out → Type 0 = λ r o. (r < vertex_size o.vertex) ⊎ ((p : Posted) → g.O.Outbox.took c.args.out.now p → (x : Posted) × IsPartOf o p x × IsBeyond (g.O.Outbox.made_for c.args.out.now) x) in
-    subst (λ r. Q r (m.out_of (moment_of c.args.now.now) row)) room (subst (Q c.load-fresh.new.v.room) same (c.in_err-compute.ensures.beyond (subst (IsValidMessage m.message) told valid) stop))
+    subst (λ r. Q r (m.out_of (moment_of c.args.now.now) row)) room (subst (Q c.load-fresh.new.v.room) same (c.in_err-compute.ensures.err.beyond (subst (IsValidMessage m.message) told valid) stop))

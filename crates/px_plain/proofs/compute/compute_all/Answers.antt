@@ -6,8 +6,10 @@ use Rattle.std.proofs.lemmas.Result.{err_from_is_err_and}
 use Rattle.px_meaning.specs.Step.{computed}
 use Rattle.px_program.specs.Posted.{IsBeyond}
 use Rattle.px_plain.specs.declared.entry.Entry.{Entry}
-use Rattle.px_plain.specs.Entries.{IsHeld, computed_row}
-use Rattle.px_plain.specs.Phase.{moment_of, active, with_all, IsPartOfAll, HasValidMessage, has_wide_answer}
+use Rattle.px_plain.specs.Entries.{IsHeld}
+use Rattle.px_meaning.specs.Phase.{computed_row, has_wide_answer}
+use Rattle.px_program.specs.Phase.{with_all, IsPartOfAll}
+use Rattle.px_plain.specs.Phase.{moment_of, active, HasValidMessage}
 use Rattle.px_plain.proofs.Phases.{split_at_item, take_item, item_of_rest, with_more, part_later, wide_later, beyond_later, all_written, rows_written}
 use Rattle.px_plain.proofs.compute.compute_all.Goals as goal
 

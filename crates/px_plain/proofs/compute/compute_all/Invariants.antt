@@ -1,8 +1,10 @@
 use Rattle.std.proofs.Common.{◌≡◌, map, take, drop, All, IsTrue}
 use Rattle.px_meaning.specs.Step.{computed}
 use Rattle.px_program.specs.Posted.{Posted}
-use Rattle.px_plain.specs.Entries.{rows_of, IsHeld, computed_row}
-use Rattle.px_plain.specs.Phase.{moment_of, active, with_all, HasValidMessage}
+use Rattle.px_plain.specs.Entries.{rows_of, IsHeld}
+use Rattle.px_meaning.specs.Phase.{computed_row}
+use Rattle.px_program.specs.Phase.{with_all}
+use Rattle.px_plain.specs.Phase.{moment_of, active, HasValidMessage}
 use Rattle.px_plain.proofs.compute.compute_all.Given as goal
 
 -- the entries so far were computed, and the rest are as they were

@@ -1,8 +1,8 @@
 use Rattle.std.proofs.Common.{◌≡◌, sym, subst}
 use Rattle.std.proofs.lemmas.Grind.{common_steps}
 use Rattle.std.proofs.Common.{arith}
-use Rattle.px_plain.specs.Entries.{IsBody}
-use Rattle.px_plain.proofs.Bodies.{body_held}
+use Rattle.px_record.specs.Held.{IsBody}
+use Rattle.px_record.proofs.HeldBodies.{body_held}
 use Rattle.px_plain.proofs.compute.store.Goals as goal
 
 -- what was written is the body of the vertex

@@ -1,10 +1,8 @@
-use Rattle.std.proofs.Common.{rules, ◌≡◌, ◌+◌, subst, take}
+use Rattle.std.proofs.Common.{rules, ◌≡◌, subst, take, refl}
 use Rattle.std.specs.Prelude.{IsTrue}
 use Rattle.std.proofs.lemmas.Result.{err_from_is_err_and}
-use Rattle.px_core.specs.declared.stop.Stop.TheVariants.{Beyond}
-use Rattle.px_program.specs.Posted.{IsBeyond}
 use Rattle.px_programs.specs.Along.{along, with_sends}
-use Rattle.px_programs.proofs.AlongSteps.{sent_more, part_sent}
+use Rattle.px_programs.proofs.AlongSteps.{sent_more, stops_sending}
 use Rattle.px_programs.proofs.along.send_along.Goals as goal
 
 pub loop-i-preserved : goal.loop-i-preserved
@@ -20,13 +18,6 @@ loop-i-preserved g c =
 pub returns-in_err-send-clause-err : goal.returns-in_err-send-clause-err
 returns-in_err-send-clause-err g c =
     let is = err_from_is_err_and c.from_residual.result c.from_residual.ensures.1 in
-    rw is.1 (λ p took. (with_sends (along c.args.payload.now (take c.loop-i.i c.args.v.now.vertex.edges)) p, part_sent p (λ e. c.args.payload.now) c.args.v.now.vertex.edges c.loop-i.i, c.in_err-send.ensures.err (with_sends (along c.args.payload.now (take c.loop-i.i c.args.v.now.vertex.edges)) p) (c.loop-i.invariant.sent p took)))
-
-pub returns-in_err-send-clause-beyond : goal.returns-in_err-send-clause-beyond
-returns-in_err-send-clause-beyond g c = λ beyond p took.
-    let is = err_from_is_err_and c.from_residual.result c.from_residual.ensures.1 in
-    let stop : c.in_err-send.field-0.0 ≡ Beyond = cc in
-    let made = with_sends (along c.args.payload.now (take (c.loop-i.i + 1) c.args.v.now.vertex.edges)) p in
-    let valid : IsTrue ((g.O.Outbox.made_for c.loop-i.out).message.valid c.args.payload.now) = rw c.loop-i.invariant.stays c.requires.valid in
-    let was = c.in_err-send.ensures.beyond valid (cc) (with_sends (along c.args.payload.now (take c.loop-i.i c.args.v.now.vertex.edges)) p) (c.loop-i.invariant.sent p took) in
-    (made, part_sent p (λ e. c.args.payload.now) c.args.v.now.vertex.edges (c.loop-i.i + 1), subst (λ f. IsBeyond f made) c.loop-i.invariant.stays (subst (IsBeyond (g.O.Outbox.made_for c.loop-i.out)) (sent_more p (λ e. c.args.payload.now) c.args.v.now.vertex.edges c.loop-i.i c.edge-dst.result c.edge-dst.ensures) was))
+    let stop : is.0 ≡ c.in_err-send.field-0.0 = cc in
+    let i = c.loop-i.invariant in
+    rw (is.1, stop) (stops_sending (λ e. c.args.payload.now) _ c.loop-i.i c.edge-dst.result _ _ _ _ _ _ _ _ _ _ _ _ i.sent c.edge-dst.ensures refl i.stays i.faults (rw i.stays c.requires.valid) c.in_err-send.ensures.err)

@@ -6,7 +6,7 @@ use Rattle.px_meaning.specs.OutputText.{text_of}
 use Rattle.px_plain.specs.Jobs.{Stands}
 use Rattle.px_plain.specs.Runs.{IsRunEnd}
 use Rattle.px_plain.specs.Texts.{graph_in}
-use Rattle.px_plain.proofs.Halting.{halts}
+use Rattle.px_meaning.proofs.Running.{halts}
 use Rattle.px_tool.specs.Clauses.{IsRunEnding}
 use Rattle.px_tool.specs.Due.{due_of_outcome}
 use Rattle.px_tool.specs.Endings.{ending_of}

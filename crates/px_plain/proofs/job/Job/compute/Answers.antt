@@ -6,11 +6,13 @@ use Rattle.px_meaning.specs.Step.{moment, computed}
 use Rattle.px_program.specs.Posted.{made_for, nothing, IsBeyond}
 use Rattle.px_plain.specs.declared.compute.Made.{Made}
 use Rattle.px_plain.specs.declared.entry.Entry.{Entry}
-use Rattle.px_plain.specs.Entries.{pairs_of, rows_of, computed_row, IsHeld}
-use Rattle.px_plain.specs.Phase.{moment_of, active, with_all, has_wide_answer}
+use Rattle.px_plain.specs.Entries.{pairs_of, rows_of, IsHeld}
+use Rattle.px_meaning.specs.Phase.{computed_row, has_wide_answer}
+use Rattle.px_program.specs.Phase.{with_all}
+use Rattle.px_plain.specs.Phase.{moment_of, active}
 use Rattle.px_plain.specs.Jobs.{StandsFor, HasComputed}
 use Rattle.px_plain.proofs.Stands.{told_moment, messages_valid}
-use Rattle.px_plain.proofs.Supersteps.{phase_computed, phase_beyond, if_ok_from}
+use Rattle.px_plain.proofs.Supersteps.{phase_computed, entries_beyond, if_ok_from}
 use Rattle.px_plain.proofs.job.Job.compute.Goals as goal
 
 pub returns-clause-held : goal.returns-clause-held
@@ -33,7 +35,7 @@ returns-clause-beyond g c = λ s stands is.
     let t_is : t ≡ moment s = ap moment_of c.now-now.ensures ∙ told_moment m job.room xs job.superstep job.aggregate job.count s here in
     let valid = messages_valid m laws job.room xs job.superstep job.aggregate job.count s here in
     let Q : ℕ → Type 0 = λ r. IsTrue (has_wide_answer m r t (active xs)) ⊎ IsBeyond (made_for m job.room) (with_all (computed m t (active xs)) nothing) in
-    phase_beyond m laws job.room xs job.superstep job.aggregate job.count s here t t_is (subst Q c.requires.room (c.compute_phase.ensures.beyond valid is))
+    entries_beyond m laws job.room xs job.superstep job.aggregate job.count s here t t_is (subst Q c.requires.room (c.compute_phase.ensures.beyond valid is))
 
 pub returns-clause-ok : goal.returns-clause-ok
 returns-clause-ok g c = λ s stands.

@@ -7,9 +7,11 @@ use Rattle.px_meaning.proofs.Grouping.{IsMap-grouped}
 use Rattle.px_meaning.proofs.Settling.{IsMap-put_all}
 use Rattle.px_meaning.proofs.Steps.{next_state, graph_before}
 use Rattle.px_plain.specs.declared.entry.Entry.{Entry}
-use Rattle.px_plain.specs.Entries.{pairs_of, rows_of, joined, IsHeld}
-use Rattle.px_plain.specs.Jobs.{StandsFor, computed_from}
-use Rattle.px_plain.proofs.Supersteps.{step_is_next, stands_for_next}
+use Rattle.px_plain.specs.Entries.{pairs_of, rows_of, IsHeld}
+use Rattle.px_meaning.specs.Attached.{joined}
+use Rattle.px_meaning.specs.Phase.{computed_from}
+use Rattle.px_plain.specs.Jobs.{StandsFor}
+use Rattle.px_plain.proofs.Supersteps.{step_is_made, stands_for_next}
 use Rattle.px_plain.proofs.job.Job.deliver.Goals as goal
 
 pub returns-clause-ok : goal.returns-clause-ok
@@ -33,4 +35,4 @@ returns-clause-ok g c = λ s made.
     let held = c.in_ok-self.ensures.held job.room (subst (All (IsHeld job.room)) (sym same) made.held) in
     let stands = stands_for_next m job.room s es job.superstep sends sum made c.in_ok-self.field-0.items (rows ∙ ap (joined (graph_before m s)) inbox) held in
     let count : length es ≡ c.len-count.result = grind (arith, common_steps) in
-    (next_state m s, step_is_next m job.room s es job.superstep sends sum made fit few small, subst (λ n. StandsFor m job.room c.in_ok-self.field-0.items (job.superstep + 1) sum n (next_state m s)) count stands)
+    (next_state m s, step_is_made m job.room s es job.superstep sends sum made fit few small, subst (λ n. StandsFor m job.room c.in_ok-self.field-0.items (job.superstep + 1) sum n (next_state m s)) count stands)

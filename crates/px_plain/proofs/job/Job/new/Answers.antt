@@ -2,7 +2,7 @@ use Rattle.std.proofs.Common.{◌≡◌, length, arith, sym, ◌∙◌}
 use Rattle.std.proofs.lemmas.Grind.{common_steps}
 use Rattle.px_plain.specs.Texts.{graph_in}
 use Rattle.px_plain.proofs.Given.{rows_given, held_given}
-use Rattle.px_plain.proofs.Plain.{plain_joined}
+use Rattle.px_meaning.proofs.Attaching.{plain_joined}
 use Rattle.px_plain.proofs.Stands.{stands_for_first}
 use Rattle.px_plain.proofs.job.Job.new.Goals as goal
 

@@ -3,7 +3,8 @@ use Rattle.std.proofs.lemmas.Result.{err_from_is_err_and}
 use Rattle.px_meaning.specs.Step.{step}
 use Rattle.px_plain.specs.Jobs.{Stands}
 use Rattle.px_plain.specs.Runs.{IsStepEnd}
-use Rattle.px_plain.proofs.Running.{run_halted, run_more, run_ended}
+use Rattle.px_meaning.proofs.Running.{run_halted, run_more}
+use Rattle.px_plain.proofs.RunEnds.{run_ended}
 use Rattle.px_plain.proofs.job.Job.run.Goals as goal
 
 pub returns-then-is_halted-clause-halted : goal.returns-then-is_halted-clause-halted
@@ -11,7 +12,7 @@ returns-then-is_halted-clause-halted g c = λ s stands.
     let job = c.loop.self in
     let has = c.loop.invariant.runs s stands in
     let here = subst (λ q. Stands (g.P.Program.meaning q) job has.state) (sym c.loop.invariant.program) has.stands in
-    run_halted (g.P.Program.meaning c.args.self.now.program) c.args.self.now.room c.args.most c.loop.counter s job has (sym (c.is_halted.ensures has.state here) ∙ c.if-is_halted.true)
+    run_halted (g.P.Program.meaning c.args.self.now.program) c.args.self.now.room c.args.most c.loop.counter s (Stands (g.P.Program.meaning c.args.self.now.program) job) has (sym (c.is_halted.ensures has.state here) ∙ c.if-is_halted.true)
 
 pub returns-in_err-advance-clause-end : goal.returns-in_err-advance-clause-end
 returns-in_err-advance-clause-end g c = λ s stands.
@@ -24,7 +25,7 @@ returns-in_err-advance-clause-end g c = λ s stands.
     let end = err_from_is_err_and c.from_residual.result c.from_residual.ensures.1 in
     let told = subst (λ r. IsStepEnd m r has.state c.in_err-advance.field-0.0) c.loop.invariant.room
     (subst (λ q. IsStepEnd (g.P.Program.meaning q) job.room has.state c.in_err-advance.field-0.0) c.loop.invariant.program (c.in_err-advance.ensures.end has.state here)) in
-    let all = run_ended m was.room c.args.most c.loop.counter s job has low (sym (c.is_halted.ensures has.state here) ∙ c.if-is_halted.false) c.in_err-advance.field-0.0 told (s.superstep + c.args.most) in
+    let all = run_ended m was.room c.args.most c.loop.counter s (Stands m job) has low (sym (c.is_halted.ensures has.state here) ∙ c.if-is_halted.false) c.in_err-advance.field-0.0 told (s.superstep + c.args.most) in
     rw (end.1, end.2) all
 
 pub loop-preserved : goal.loop-preserved
@@ -42,7 +43,7 @@ loop-preserved g c =
           let is = subst (λ r. step m r has.state ≡ Some taken.0) c.loop.invariant.room (subst (λ q. step (g.P.Program.meaning q) job.room has.state ≡ Some taken.0) c.loop.invariant.program taken.1) in
           let there = subst (λ q. Stands (g.P.Program.meaning q) next taken.0) c.loop.invariant.program taken.2 in
           let rose : taken.0.superstep ≡ has.state.superstep + 1 = omega (arith, there.superstep_is, c.in_ok-advance.ensures.superstep, has.stands.superstep_is) in
-          run_more m was.room c.args.most c.loop.counter s job has low (sym (c.is_halted.ensures has.state here) ∙ c.if-is_halted.false) taken.0 next is there rose;
+          run_more m was.room c.args.most c.loop.counter s (Stands m job) has low (sym (c.is_halted.ensures has.state here) ∙ c.if-is_halted.false) taken.0 (Stands m next) is there rose;
       held = c.in_ok-advance.ensures.held;
       superstep = omega (arith, c.in_ok-advance.ensures.superstep, c.loop.invariant.superstep);
       program = c.advance.ensures.program ∙ c.loop.invariant.program;

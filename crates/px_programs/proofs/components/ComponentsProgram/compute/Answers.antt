@@ -1,6 +1,6 @@
-use Rattle.std.proofs.Common.{◌≡◌, true, arith, inr}
+use Rattle.std.proofs.Common.{◌≡◌, true, arith}
 use Rattle.std.proofs.lemmas.Grind.{common_steps}
-use Rattle.std.proofs.lemmas.Result.{MatchResult-weaker}
+use Rattle.std.proofs.lemmas.Result.{IfErr-weaker}
 use Rattle.std.specs.Prelude.{option_copied}
 use Rattle.px_meaning.specs.Merge.{IsValidMessage}
 use Rattle.px_program.specs.Calls.{answer}
@@ -8,7 +8,7 @@ use Rattle.px_program.specs.Numbers.{lesser_rule}
 use Rattle.px_programs.specs.Along.{along}
 use Rattle.px_programs.specs.Answers.{posts, valued}
 use Rattle.px_programs.specs.Components.{components}
-use Rattle.px_programs.proofs.PostSteps.{part_posted}
+use Rattle.px_programs.proofs.PostSteps.{stops_posted}
 use Rattle.px_programs.proofs.components.ComponentsProgram.compute.Goals as goal
 use Rattle.px_programs.proofs.components.ComponentsProgram.compute.Given.{Over}
 use Rattle.px_programs.proofs.components.ComponentsProgram.compute.Goals.{After-post_along}
@@ -18,13 +18,5 @@ answered : (g : Over) (c : After-post_along g) → IsValidMessage lesser_rule (o
     → answer components c.args.at.now c.args.v.now (option_copied c.args.msg) ≡ posts (valued true c.in-Some.label c.args.v.now.vertex) 1 (along c.bytes_of-payload.result c.set_value.new.self.vertex.edges)
 answered g c valid = grind (arith, common_steps)
 
-pub returns-clause-stopped : goal.returns-clause-stopped
-returns-clause-stopped g c = λ valid.
-    MatchResult-weaker c.post_along.result c.post_along.ensures.err (λ x h. h) (λ stop part. λ p took.
-    let made = part p took in
-    (made.0, part_posted _ 1 _ _ _ _ (answered g c valid) made.1, made.2))
-
-pub returns-clause-beyond : goal.returns-clause-beyond
-returns-clause-beyond g c = λ valid is. inr (λ p took.
-    let made = c.post_along.ensures.beyond is p took in
-    (made.0, part_posted _ 1 _ _ _ _ (answered g c valid) made.1, made.2))
+pub returns-clause-err : goal.returns-clause-err
+returns-clause-err g c = IfErr-weaker c.post_along.result _ _ (λ e. stops_posted _ _ _ _ _ _ _ _ _ _ _ _ e (answered g c)) c.post_along.ensures.err

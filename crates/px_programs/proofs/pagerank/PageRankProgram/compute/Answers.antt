@@ -1,6 +1,6 @@
-use Rattle.std.proofs.Common.{◌≡◌, false, arith, inr}
+use Rattle.std.proofs.Common.{◌≡◌, false, arith}
 use Rattle.std.proofs.lemmas.Grind.{common_steps}
-use Rattle.std.proofs.lemmas.Result.{MatchResult-weaker}
+use Rattle.std.proofs.lemmas.Result.{IfErr-weaker}
 use Rattle.std.specs.Prelude.{option_copied}
 use Rattle.px_meaning.specs.Merge.{IsValidMessage}
 use Rattle.px_program.specs.Calls.{answer}
@@ -8,7 +8,7 @@ use Rattle.px_program.specs.Numbers.{sum_rule}
 use Rattle.px_programs.specs.Along.{along}
 use Rattle.px_programs.specs.Answers.{posts, valued}
 use Rattle.px_programs.specs.PageRank.{pagerank}
-use Rattle.px_programs.proofs.PostSteps.{part_posted}
+use Rattle.px_programs.proofs.PostSteps.{stops_posted}
 use Rattle.px_programs.proofs.pagerank.PageRankProgram.compute.Goals as goal
 use Rattle.px_programs.proofs.pagerank.PageRankProgram.compute.Given.{Over}
 use Rattle.px_programs.proofs.pagerank.PageRankProgram.compute.Goals.{After-post_along}
@@ -18,13 +18,5 @@ answered : (g : Over) (c : After-post_along g) → IsValidMessage sum_rule (opti
     → answer (pagerank c.args.self.now.rounds) c.args.at.now c.args.v.now (option_copied c.args.msg) ≡ posts (valued false c.in-Some.rank c.args.v.now.vertex) c.in-Some.rank (along c.bytes_of-2.result c.set_value.new.self.vertex.edges)
 answered g c valid = grind (arith, common_steps)
 
-pub returns-clause-stopped : goal.returns-clause-stopped
-returns-clause-stopped g c = λ valid.
-    MatchResult-weaker c.post_along.result c.post_along.ensures.err (λ x h. h) (λ stop part. λ p took.
-    let made = part p took in
-    (made.0, part_posted _ c.in-Some.rank _ _ _ _ (answered g c valid) made.1, made.2))
-
-pub returns-clause-beyond : goal.returns-clause-beyond
-returns-clause-beyond g c = λ valid is. inr (λ p took.
-    let made = c.post_along.ensures.beyond is p took in
-    (made.0, part_posted _ c.in-Some.rank _ _ _ _ (answered g c valid) made.1, made.2))
+pub returns-clause-err : goal.returns-clause-err
+returns-clause-err g c = IfErr-weaker c.post_along.result _ _ (λ e. stops_posted _ _ _ _ _ _ _ _ _ _ _ _ e (answered g c)) c.post_along.ensures.err

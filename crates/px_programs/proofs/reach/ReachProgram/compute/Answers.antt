@@ -1,12 +1,12 @@
-use Rattle.std.proofs.Common.{◌≡◌, arith, subst, inr}
+use Rattle.std.proofs.Common.{◌≡◌, arith, subst}
 use Rattle.std.proofs.lemmas.Grind.{common_steps}
-use Rattle.std.proofs.lemmas.Result.{MatchResult-weaker}
+use Rattle.std.proofs.lemmas.Result.{MatchResult-weaker, IfErr-weaker}
 use Rattle.std.specs.Prelude.{[], option_copied}
 use Rattle.px_program.specs.Calls.{answer}
 use Rattle.px_programs.specs.Along.{along}
 use Rattle.px_programs.specs.Answers.{posts}
 use Rattle.px_programs.specs.Reach.{reach, marked}
-use Rattle.px_programs.proofs.PostSteps.{part_posted, all_posted}
+use Rattle.px_programs.proofs.PostSteps.{stops_posted, all_posted}
 use Rattle.px_programs.proofs.reach.ReachProgram.compute.Goals as goal
 use Rattle.px_programs.proofs.reach.ReachProgram.compute.Given.{Over}
 use Rattle.px_programs.proofs.reach.ReachProgram.compute.Goals.{After-post_along}
@@ -20,13 +20,5 @@ returns-then-reached-clause-posted g c = λ valid.
     MatchResult-weaker c.post_along.result c.post_along.ensures.ok (λ x all. λ p took.
     subst (g.O.Outbox.took c.post_along.new.out) (all_posted _ 1 _ _ p (reached g c)) (all p took)) (λ e h. h)
 
-pub returns-then-reached-clause-stopped : goal.returns-then-reached-clause-stopped
-returns-then-reached-clause-stopped g c = λ valid.
-    MatchResult-weaker c.post_along.result c.post_along.ensures.err (λ x h. h) (λ stop part. λ p took.
-    let made = part p took in
-    (made.0, part_posted _ 1 _ _ _ _ (reached g c) made.1, made.2))
-
-pub returns-then-reached-clause-beyond : goal.returns-then-reached-clause-beyond
-returns-then-reached-clause-beyond g c = λ valid is. inr (λ p took.
-    let made = c.post_along.ensures.beyond is p took in
-    (made.0, part_posted _ 1 _ _ _ _ (reached g c) made.1, made.2))
+pub returns-then-reached-clause-err : goal.returns-then-reached-clause-err
+returns-then-reached-clause-err g c = IfErr-weaker c.post_along.result _ _ (λ e. stops_posted _ _ _ _ _ _ _ _ _ _ _ _ e (λ valid. reached g c)) c.post_along.ensures.err

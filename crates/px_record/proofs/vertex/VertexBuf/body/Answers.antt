@@ -1,4 +1,6 @@
-use Rattle.std.proofs.Common.{ℕ, List, take, ap, ◌∙◌}
+use Rattle.std.proofs.Common.{ℕ, ◌+◌, List, take, length, ap, arith, ◌∙◌}
+use Rattle.px_record.specs.Headers.{vertex_at}
+use Rattle.px_record.proofs.Laws.{length-body_of}
 use Rattle.px_record.specs.Body.{is_vertex_body, body_len, vertex_of}
 use Rattle.px_record.proofs.Held.{held_spells, held_valid, held_within}
 use Rattle.px_record.proofs.vertex.VertexBuf.body.Goals as goal
@@ -18,3 +20,13 @@ returns-clause-spells c =
 
 pub returns-clause-within : goal.returns-clause-within
 returns-clause-within c = rw (← c.self.view_is) (held_within c.self.inside.header c.self.inside.room c.self.inside.frame c.self.invariant c.self.inside.vid)
+
+pub returns-clause-len : goal.returns-clause-len
+returns-clause-len c =
+    let header = c.self.inside.header in
+    let frame = c.self.inside.frame in
+    rw (← c.self.view_is)
+    (ap (λ (n : ℕ). 13 + length (take n c.bytes.result.now)) c.body_len.ensures
+    ∙ ap (λ (l : List ℕ). 13 + length (take (body_len header.value header.edges) l)) c.bytes.ensures
+    ∙ ap (λ (l : List ℕ). 13 + length l) c.self.invariant.body
+    ∙ omega (arith, length-body_of (vertex_at header frame)))

@@ -1,0 +1,5 @@
+use Rattle.px_program.proofs.Weaving.{woven_alike}
+use Rattle.px_program.proofs.laws.regroup.Goals as goal
+
+pub returns : goal.returns
+returns c = woven_alike
