@@ -1,0 +1,4 @@
+pub mod Lists
+pub mod Shows
+pub mod Pins
+pub mod Calls

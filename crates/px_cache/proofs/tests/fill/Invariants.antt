@@ -1,0 +1,17 @@
+use Rattle.std.proofs.Common.{◌≡◌}
+use Rattle.px_cache.specs.View.{NoPins, SameCache}
+use Rattle.px_cache.proofs.tests.fill.Given as goal
+
+abbrev pub invariant-loop-page : goal.invariant-loop-page
+invariant-loop-page g l = record {
+  len : l.cache.len ≡ (g.D.Disk.shown l.disk).page_len;
+  free : NoPins l.cache.notes;
+  stays : SameCache l.fn.cache l.cache;
+}
+
+abbrev pub invariant-loop-page-2 : goal.invariant-loop-page-2
+invariant-loop-page-2 g l = record {
+  len : l.cache.len ≡ (g.D.Disk.shown l.disk).page_len;
+  free : NoPins l.cache.notes;
+  stays : SameCache l.fn.cache l.cache;
+}
