@@ -1,0 +1,4 @@
+pub mod Between
+pub mod Parting
+pub mod Asked
+pub mod Sending

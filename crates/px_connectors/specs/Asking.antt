@@ -1,0 +1,30 @@
+-- Requests, as their callers see them: writers whose first file is 160.
+use Rattle.std.specs.Prelude.{◌≡◌, ◌<◌, ℕ, ◌+◌, List, map, slice_index_or}
+use Rattle.px_core.specs.Parts.{to_part}
+use Rattle.px_core.specs.Shown.{Shown}
+use Rattle.px_meaning.specs.Merge.{Pairs}
+use Rattle.px_pages.specs.Entry.{Entry}
+use Rattle.px_stream.specs.Stream.{Holds}
+use Rattle.px_connectors.specs.Messages.{tagged}
+use Rattle.px_connectors.specs.Writers.{WritersView, parts_in, IsPartFile, TookParts}
+
+-- receiver q has file 160 + q
+abbrev pub IsRequestFile : ℕ → Type 0
+IsRequestFile f = IsPartFile 160 f
+
+-- pairs as the tuples of requests
+abbrev pub requests : Pairs → List Entry
+requests l = map (tagged 2) l
+
+-- the disk tells, and these were requested since the start, in this order
+pub record Asked (s : Shown) (r : WritersView) (l : Pairs) : Type 0 where
+  pub first : r.first ≡ 160
+  pub took : TookParts s 2 r l
+
+-- how many pages the file of a receiver had when it was finished last
+abbrev pub pages_of : WritersView → ℕ → ℕ
+pages_of r q = slice_index_or r.pages q 0
+
+-- the files hold these requests: each those to its receiver, in order, on so many pages
+pub record AskedOf (s : Shown) (r : WritersView) (l : Pairs) : Type 0 where
+  pub each : (q : ℕ) → q < parts_in r → Holds s (160 + q) (pages_of r q) (requests (to_part (parts_in r) q l))

@@ -1,0 +1,11 @@
+-- The files that a gathering may change.
+use Rattle.std.specs.Prelude.{◌≡◌, ◌⊎◌, ℕ}
+use Rattle.px_program.specs.Groups.{GroupMade, IsOwn}
+
+-- a group's own files, and one more
+abbrev pub OwnOr : GroupMade → ℕ → ℕ → Type 0
+OwnOr made file f = IsOwn made f ⊎ (f ≡ file)
+
+-- and two more
+abbrev pub OwnOrEither : GroupMade → ℕ → ℕ → ℕ → Type 0
+OwnOrEither made file other f = IsOwn made f ⊎ (f ≡ file) ⊎ (f ≡ other)

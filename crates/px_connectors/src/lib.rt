@@ -1,0 +1,16 @@
+//! How messages go from those who send them to those who receive them.
+#![tactic(auto)]
+
+mod connector;
+mod gathering;
+mod partitioning;
+mod requests;
+mod writers;
+
+pub use connector::Connector;
+pub use gathering::gather;
+pub use partitioning::Partitioning;
+pub use requests::Requests;
+
+#[cfg(test)]
+mod tests;

@@ -1,0 +1,9 @@
+pub mod Places
+pub mod Likeness
+pub mod Spilling
+pub mod Streaming
+pub mod Holding
+pub mod Fitting
+pub mod Sealing
+pub mod Giving
+pub mod Stopping
