@@ -3,14 +3,18 @@
 //!     px_bench pages N            fills N pages of tuples and walks them
 //!     px_bench parse              parses the graph text on standard input
 //!     px_bench streams N FOLDER   writes N tuples to a file of a disk in FOLDER and reads them back
+//!     px_bench merge N FOLDER     writes 16 runs of N tuples to a file of a disk in FOLDER and merges them
+//!     px_bench group N FOLDER     groups N pairs by sorting, with files of a disk in FOLDER
 //!     px_bench rank N             loads N vertices, computes them and stores them, in ten rounds
 //!     px_bench print N            prints N values as ranks and as distances
 //!     px_bench                    does a little of each
 //!
 //! What a job came to goes to standard output, and the seconds that it took to standard error.
-//! The file of `streams` stays. Without words nothing is timed, and the file is removed.
+//! The files of `streams`, `merge` and `group` stay. Without words nothing is timed, and the files are removed.
 #![tactic(auto)]
 
+mod group;
+mod merge;
 mod pages;
 mod parse;
 mod print;
@@ -23,6 +27,7 @@ use crate::tally::Tally;
 use anyhow::{Result, bail};
 use px_core::MemSource;
 use px_filedisk::FileDisk;
+use px_sort_group::SortGroup;
 use px_stdio::Input;
 use std::time::Instant;
 use std::{env, fs};
@@ -38,6 +43,10 @@ enum Job {
     Parse,
     /// So many tuples, in a file of the folder that the last word names.
     Streams(u64),
+    /// So many tuples a run, in a file of the folder that the last word names.
+    Merge(u64),
+    /// So many pairs, with files of the folder that the last word names.
+    Group(u64),
     /// So many vertices.
     Rank(u64),
     /// So many values.
@@ -54,6 +63,12 @@ const LITTLE_FOLDER: &str = "px_bench_streams";
 
 const LITTLE_FILE: &str = "px_bench_streams/f1";
 
+const LITTLE_MERGE: &str = "px_bench_merge";
+
+const LITTLE_RUNS: &str = "px_bench_merge/f0";
+
+const LITTLE_GROUP: &str = "px_bench_group";
+
 const LITTLE_COUNT: u64 = 100;
 
 fn counted_job(name: &str, count: u64) -> Option<Job> {
@@ -68,12 +83,24 @@ fn counted_job(name: &str, count: u64) -> Option<Job> {
     }
 }
 
+fn filed_job(name: &str, count: u64) -> Option<Job> {
+    if name == "streams" {
+        Some(Job::Streams(count))
+    } else if name == "merge" {
+        Some(Job::Merge(count))
+    } else if name == "group" {
+        Some(Job::Group(count))
+    } else {
+        None
+    }
+}
+
 fn job_of(words: &[String]) -> Option<Job> {
     match words {
         [] => Some(Job::Little),
         [name] if name.as_str() == "parse" => Some(Job::Parse),
         [name, count] => counted_job(name.as_str(), count.parse().ok()?),
-        [name, count, _] if name.as_str() == "streams" => count.parse().ok().map(Job::Streams),
+        [name, count, _] => filed_job(name.as_str(), count.parse().ok()?),
         _ => None,
     }
 }
@@ -107,6 +134,23 @@ fn do_little(rt: HostRuntime) -> Result<()> {
     print_streams(&rt, streams::run(alloc, &mut disk, LITTLE_TUPLES)?)?;
     fs::remove_file(&rt, LITTLE_FILE)?;
     fs::remove_dir(&rt, LITTLE_FOLDER)?;
+    let mut disk = FileDisk::new(rt, alloc, LITTLE_MERGE)?;
+    print_tally(
+        &rt,
+        "merge",
+        merge::run(alloc, &mut disk, LITTLE_TUPLES)?,
+        "tuples",
+    )?;
+    fs::remove_file(&rt, LITTLE_RUNS)?;
+    fs::remove_dir(&rt, LITTLE_MERGE)?;
+    let mut disk = FileDisk::new(rt, alloc, LITTLE_GROUP)?;
+    print_tally(
+        &rt,
+        "group",
+        group::run::<_, SortGroup>(alloc, &mut disk, LITTLE_TUPLES)?,
+        "vids",
+    )?;
+    fs::remove_dir(&rt, LITTLE_GROUP)?;
     let records = rank::build(alloc, LITTLE_COUNT)?;
     print_tally(
         &rt,
@@ -143,6 +187,28 @@ fn time_streams(rt: HostRuntime, count: u64, folder: Option<&String>) -> Result<
     print_streams(&rt, done)
 }
 
+fn time_merge(rt: HostRuntime, count: u64, folder: Option<&String>) -> Result<()> {
+    let Some(folder) = folder else {
+        bail!("there is no folder");
+    };
+    let mut disk = FileDisk::new(rt, rt.alloc(), folder.as_str())?;
+    let start = Instant::now(&rt)?;
+    let tally = merge::run(rt.alloc(), &mut disk, count)?;
+    print_seconds(&rt, start)?;
+    print_tally(&rt, "merge", tally, "tuples")
+}
+
+fn time_group(rt: HostRuntime, count: u64, folder: Option<&String>) -> Result<()> {
+    let Some(folder) = folder else {
+        bail!("there is no folder");
+    };
+    let mut disk = FileDisk::new(rt, rt.alloc(), folder.as_str())?;
+    let start = Instant::now(&rt)?;
+    let tally = group::run::<_, SortGroup>(rt.alloc(), &mut disk, count)?;
+    print_seconds(&rt, start)?;
+    print_tally(&rt, "group", tally, "vids")
+}
+
 fn time_rank(rt: &HostRuntime, count: u64) -> Result<()> {
     let records = rank::build(rt.alloc(), count)?;
     let start = Instant::now(rt)?;
@@ -168,10 +234,12 @@ fn main(rt: HostRuntime) -> Result<()> {
         Some(Job::Pages(pages)) => time_pages(&rt, pages),
         Some(Job::Parse) => time_parse(&rt),
         Some(Job::Streams(count)) => time_streams(rt, count, words.last()),
+        Some(Job::Merge(count)) => time_merge(rt, count, words.last()),
+        Some(Job::Group(count)) => time_group(rt, count, words.last()),
         Some(Job::Rank(count)) => time_rank(&rt, count),
         Some(Job::Print(count)) => time_print(&rt, count),
         None => bail!(
-            "the words are `pages N`, `parse`, `streams N FOLDER`, `rank N` or `print N`"
+            "the words are `pages N`, `parse`, `streams N FOLDER`, `merge N FOLDER`, `group N FOLDER`, `rank N` or `print N`"
         ),
     }
 }

@@ -1,10 +1,11 @@
 // Vertices are loaded from their records, compute a superstep of pagerank, and are stored again.
-ghost use Rattle.std.specs.Prelude.{◌≡◌, true, false};
+ghost use Rattle.std.specs.Prelude.{◌≡◌, [], true, false};
 ghost use Rattle.px_program.specs.NoVerdict.{no_verdict_rule};
 ghost use Rattle.px_program.specs.Numbers.{sum_rule};
+ghost use Rattle.px_program.specs.Saturating.{saturating_sum};
 
 use crate::record::record_of;
-use crate::tally::Tally;
+use crate::tally::{Tally, number};
 use anyhow::{Result, bail};
 use byteorder::{BigEndian, ByteOrder};
 use px_core::{Stop, Vid};
@@ -27,18 +28,10 @@ struct Sums {
     sum: u64,
 }
 
-// The number in eight bytes, and 0 for other bytes.
-fn number(bytes: &[u8]) -> u64 {
-    match bytes.try_into() {
-        Ok(bytes) => u64::from_be_bytes(bytes),
-        Err(_) => 0,
-    }
-}
-
 impl Outbox for Sums {
     ghost took = { λ o p. ⊥ };
 
-    ghost made_for = { λ o. record { message = sum_rule; verdict = no_verdict_rule; room = 131056 } };
+    ghost made_for = { λ o. record { message = sum_rule; verdict = no_verdict_rule; room = 131056; unit = 0; join = saturating_sum; lent = [] } };
 
     ghost faults = { λ o. 0 };
 

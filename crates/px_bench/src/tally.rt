@@ -13,4 +13,18 @@ impl Tally {
         self.count = self.count.wrapping_add(count);
         self.sum = self.sum.wrapping_add(sum);
     }
+
+    /// Adds one more thing, where the order of things counts. Both numbers wrap.
+    pub fn add_next(&mut self, n: u64) {
+        self.count = self.count.wrapping_add(1);
+        self.sum = self.sum.wrapping_mul(31).wrapping_add(n);
+    }
+}
+
+/// The number in eight bytes, and 0 for other bytes.
+pub fn number(bytes: &[u8]) -> u64 {
+    match bytes.try_into() {
+        Ok(bytes) => u64::from_be_bytes(bytes),
+        Err(_) => 0,
+    }
 }
