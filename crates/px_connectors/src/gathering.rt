@@ -1,6 +1,7 @@
 // A stream of pairs is grouped into another stream.
 ghost use Rattle.std.specs.Prelude.{◌≡◌, ◌≢◌, ◌+◌, ◌++◌, [], List, false, IsTrue, OnOk, IfErr};
 ghost use Rattle.px_core.specs.Shown.{Clean};
+ghost use Rattle.px_frames.specs.Buffer.{SameRoom};
 ghost use Rattle.px_pages.specs.Entry.{Entry};
 ghost use Rattle.px_stream.specs.Stream.{Took, Has, ToGive};
 ghost use Rattle.px_meaning.specs.Merge.{Pairs, AllValid, grouped};
@@ -36,7 +37,9 @@ fn take_pairs<D: Disk, M: Merge, G: Group>(
         ((ins : List Entry) (l : Pairs) → ToGive (D.shown disk.old) from.old ins → AllValid (M.rule merge.now) (pairs_of ins) → G.took (D.shown disk.old) group.old (M.rule merge.now) l
         → IsTrue (has_wide_fold (M.rule merge.now) (room_in (G.made group.old)) (l ++ pairs_of ins)))
         (D.shown disk.old) (D.shown disk.new)) }
-    ensures limit { into.new.limit ≡ into.old.limit }
+    ensures room { SameRoom into.old into.new }
+    ensures from_file { from.new.file ≡ from.old.file }
+    ensures from_len { from.new.page_len ≡ from.old.page_len }
     ensures stays { G.made group.new ≡ G.made group.old }
 {
     while let Some(head) = from.next(disk, into)? {
@@ -64,9 +67,9 @@ fn write_folds<D: Disk, M: Merge, G: Group>(
     ensures err { IfErr result (StopsGrouping (OwnOr (G.made group.old) to.old.file)
         ((all rest : Pairs) → G.gives (D.shown disk.old) group.old (M.rule merge.now) all rest → IsTrue (has_wide_fold (M.rule merge.now) (room_in (G.made group.old)) all))
         (D.shown disk.old) (D.shown disk.new)) }
-    ensures limit { into.new.limit ≡ into.old.limit }
-    ensures file { to.new.file ≡ to.old.file }
+    ensures room { SameRoom into.old into.new }
     ensures first { OnOk result (to.new.first ≡ to.old.first) }
+    ensures to_file { to.new.file ≡ to.old.file }
     ensures to_len { to.new.page_len ≡ to.old.page_len }
     ensures stays { G.made group.new ≡ G.made group.old }
 {
@@ -104,9 +107,12 @@ pub fn gather<D: Disk, M: Merge, G: Group>(
         ((ins : List Entry) → ToGive (D.shown disk.old) from.old ins → AllValid (M.rule merge.now) (pairs_of ins) → G.took (D.shown disk.old) group.old (M.rule merge.now) []
         → IsTrue (has_wide_fold (M.rule merge.now) (room_in (G.made group.old)) (pairs_of ins)))
         (D.shown disk.old) (D.shown disk.new)) }
-    ensures limit { into.new.limit ≡ into.old.limit }
-    ensures file { to.new.file ≡ to.old.file }
+    ensures room { SameRoom into.old into.new }
     ensures first { OnOk result (to.new.first ≡ to.old.first) }
+    ensures from_file { from.new.file ≡ from.old.file }
+    ensures from_len { from.new.page_len ≡ from.old.page_len }
+    ensures to_file { to.new.file ≡ to.old.file }
+    ensures to_len { to.new.page_len ≡ to.old.page_len }
     ensures stays { G.made group.new ≡ G.made group.old }
 {
     take_pairs(disk, merge, group, from, into)?;

@@ -6,6 +6,7 @@ pub mod Folding
 pub mod GoodLines
 pub mod Grouping
 pub mod Inbox
+pub mod Likeness
 pub mod Limits
 pub mod LineWords
 pub mod MapParts

@@ -1,3 +1,4 @@
+pub mod Alike
 pub mod Attached
 pub mod Due
 pub mod Folding

@@ -2,4 +2,5 @@ pub mod NumberRules
 pub mod Phases
 pub mod Printing
 pub mod SaturatingSums
+pub mod Stopping
 pub mod Weaving

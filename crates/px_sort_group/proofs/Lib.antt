@@ -1,9 +1,7 @@
 pub mod Places
-pub mod Likeness
 pub mod Spilling
 pub mod Streaming
 pub mod Holding
 pub mod Fitting
 pub mod Sealing
 pub mod Giving
-pub mod Stopping

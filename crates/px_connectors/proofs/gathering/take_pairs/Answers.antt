@@ -34,7 +34,7 @@ loop-head-preserved g c =
       opened = search rules;
       from_file = search rules;
       from_len = search rules;
-      limit = search rules;
+      room = search rules;
     }
 
 pub returns-in_err-add-clause-err : goal.returns-in_err-add-clause-err

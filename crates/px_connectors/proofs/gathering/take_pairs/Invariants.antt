@@ -1,5 +1,6 @@
 use Rattle.std.proofs.Common.{◌≡◌, List, IsTrue}
 use Rattle.px_core.specs.Shown.{Clean}
+use Rattle.px_frames.specs.Buffer.{SameRoom}
 use Rattle.px_pages.specs.Entry.{Entry}
 use Rattle.px_stream.specs.Stream.{ToGive}
 use Rattle.px_stream.specs.Counts.{left}
@@ -21,7 +22,7 @@ invariant-loop-head g l =
       opened : IsTrue (g.G.Group.is_open l.group);
       from_file : l.from.file ≡ l.fn.from.file;
       from_len : l.from.page_len ≡ l.fn.from.page_len;
-      limit : l.into.limit ≡ l.fn.into.limit;
+      room : SameRoom l.fn.into l.into;
     }
 
 abbrev pub decreases-loop-head : goal.decreases-loop-head

@@ -19,7 +19,7 @@ loop-vid-init g c = record {
   to_file = search rules;
   to_first = search rules;
   to_len = search rules;
-  limit = search rules;
+  room = search rules;
 }
 
 pub loop-vid-preserved : goal.loop-vid-preserved
@@ -50,7 +50,7 @@ loop-vid-preserved g c =
       to_file = search rules;
       to_first = search rules;
       to_len = search rules;
-      limit = search rules;
+      room = search rules;
     }
 
 pub returns-clause-took : goal.returns-clause-took

@@ -1,5 +1,6 @@
 use Rattle.std.proofs.Common.{◌≡◌, List, IsTrue}
 use Rattle.px_core.specs.Shown.{Clean}
+use Rattle.px_frames.specs.Buffer.{SameRoom}
 use Rattle.px_pages.specs.Entry.{Entry}
 use Rattle.px_stream.specs.Stream.{Took}
 use Rattle.px_meaning.specs.Merge.{Pairs}
@@ -21,7 +22,7 @@ invariant-loop-vid g l =
       to_file : l.to.file ≡ l.fn.to.file;
       to_first : l.to.first ≡ l.fn.to.first;
       to_len : l.to.page_len ≡ l.fn.to.page_len;
-      limit : l.into.limit ≡ l.fn.into.limit;
+      room : SameRoom l.fn.into l.into;
     }
 
 abbrev pub decreases-loop-vid : goal.decreases-loop-vid
