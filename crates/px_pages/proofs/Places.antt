@@ -1,15 +1,19 @@
 -- Places among the tuples of a page.
-use Rattle.std.proofs.Common.{Bool, true, false, ◌≡◌, ◌<◌, ◌≤◌, ◌+◌, ℕ, zero, suc, List, [], ◌∷◌, ◌++◌, length, take, drop, set, refl, sym, ◌∙◌, ap, subst, arith, drop-cons}
+use Rattle.std.proofs.Common.{Bool, true, false, ◌≡◌, ◌<◌, ◌≤◌, ◌+◌, ℕ, zero, suc, List, [], ◌∷◌, ◌++◌, length, take, drop, set, refl, sym, ◌∙◌, ap, subst, arith, drop-cons, ◌-◌, ◌*◌, inl, inr, nat_lt}
 use Rattle.std.specs.Prelude.{slice_get, option_map, IsSome, IfSome, IsTrue, ◌↔◌, Option, Some, None}
-use Rattle.std.proofs.lemmas.List.{length-append, length-drop, length-take-le, take-append-drop}
+use Rattle.std.specs.List.{prefix_len}
+use Rattle.std.proofs.lemmas.Bool.{cases_lt, cases_Bool}
+use Rattle.std.proofs.lemmas.Bool.Decides.{nat_tests}
+use Rattle.std.proofs.lemmas.List.{length-append, length-drop, length-take-le, take-append-drop, drop-drop}
 use Rattle.std.proofs.lemmas.Option.{slice_get_past, slice_get_within, get_or_from_slice_get}
-use Rattle.px_pages.specs.Entry.{Entry, entry_bytes, bytes_of, size_of}
-use Rattle.px_pages.specs.Page.{tuples_of, used_of, entry_of}
-use Rattle.px_pages.specs.Place.{IsPlace}
+use Rattle.px_pages.specs.Entry.{Entry, entry_bytes, bytes_of, size_of, entry_at, len_at, entries_in}
+use Rattle.px_pages.specs.Page.{tuples_of, used_of, entry_of, left_of, count_of}
+use Rattle.px_pages.specs.Place.{IsPlace, IsFront, is_below}
 use Rattle.px_pages.specs.declared.reader.Tuple.{Tuple}
 use Rattle.px_pages.specs.declared.place.Place.{Place}
 use Rattle.px_pages.proofs.Editing.{bytes_join}
-use Rattle.px_pages.proofs.Writing.{length-entry_bytes}
+use Rattle.px_pages.proofs.Writing.{length-entry_bytes, length-bytes_of}
+use Rattle.px_pages.proofs.Reading.{entries_none, entries_more, length-body_at, length-bytes_of-entries_in}
 
 -- the first of the tuples from a place on
 pub record Head (i : ℕ) (ts : List Entry) (e : Entry) (rest : List Entry) : Type 0 where
@@ -158,3 +162,56 @@ some_given (Some t) P f = f t refl
 
 pub size_is : (o : Option Tuple) (t : Tuple) → o ≡ Some t → (n : ℕ) → IfSome o (λ u. n ≡ 13 + u.len) → n ≡ 13 + t.len
 size_is o t is n size = subst (λ (p : Option Tuple). IfSome p (λ u. n ≡ 13 + u.len)) is size
+
+-- what is left behind so many tuples
+pub entries_behind : (n i : ℕ) (bytes : List ℕ) → i ≤ length (entries_in n bytes)
+    → entries_in (n - i) (drop (length (bytes_of (take i (entries_in n bytes)))) bytes) ≡ drop i (entries_in n bytes)
+entries_behind n zero bytes in_range = let whole : n - 0 ≡ n = omega arith in ap (λ (k : ℕ). entries_in k bytes) whole
+entries_behind zero (suc i) bytes in_range = absurd (omega arith)
+entries_behind (suc n) (suc i) bytes in_range = elim (cases_lt (length bytes) 13) [
+  | inl short ↦ let none = ap (λ (es : List Entry). length es) (entries_none (suc n) bytes short) in absurd (omega (arith, none))
+  | inr room ↦
+      let e = entry_at bytes in
+      let rest = drop (13 + len_at bytes) bytes in
+      let more : entries_in (suc n) bytes ≡ e ∷ entries_in n rest = entries_more n bytes room in
+      let L = length (bytes_of (take i (entries_in n rest))) in
+      let first : i ≤ length (entries_in n rest) = omega (arith, ap (λ (es : List Entry). length es) more) in
+      let size : length (entry_bytes e ++ bytes_of (take i (entries_in n rest))) ≡ (13 + len_at bytes) + L =
+      omega (arith, length-append (entry_bytes e) (bytes_of (take i (entries_in n rest))), length-entry_bytes e, length-body_at bytes room) in
+      let left : suc n - suc i ≡ n - i = omega arith in
+      ap (λ (k : ℕ). entries_in k (drop (length (bytes_of (take (suc i) (entries_in (suc n) bytes)))) bytes)) left
+      ∙ ap (λ (es : List Entry). entries_in (n - i) (drop (length (bytes_of (take (suc i) es))) bytes)) more
+      ∙ ap (λ (k : ℕ). entries_in (n - i) (drop k bytes)) size
+      ∙ ap (entries_in (n - i)) (sym (drop-drop L (13 + len_at bytes) bytes))
+      ∙ entries_behind n i rest first
+      ∙ ap (λ (es : List Entry). drop (suc i) es) (sym more)
+]
+
+pub left_behind : (page : List ℕ) (index at : ℕ) → IsFront index at page → left_of (record { left = count_of page - index; at = at }) page ≡ drop index (tuples_of page)
+left_behind page index at is =
+    let L = length (bytes_of (take index (tuples_of page))) in
+    ap (λ (k : ℕ). entries_in (count_of page - index) (drop k page)) (is.at)
+    ∙ ap (entries_in (count_of page - index)) (sym (drop-drop L 32 page))
+    ∙ entries_behind (count_of page) index (drop 32 page) is.index
+
+-- a prefix goes on behind so many of it
+pub prefix_behind : (p : Entry → Bool) (i : ℕ) (es : List Entry) → i ≤ prefix_len p es → prefix_len p es ≡ i + prefix_len p (drop i es)
+prefix_behind p zero es le = omega arith
+prefix_behind p (suc i) [] le = absurd (omega arith)
+prefix_behind p (suc i) (e ∷ es) le = elim (cases_Bool (p e)) [
+  | inl counts ↦
+      let more : prefix_len p (e ∷ es) ≡ 1 + prefix_len p es = rw counts refl in
+      omega (arith, more, prefix_behind p i es (omega (arith, more, le)))
+  | inr ends ↦
+      let none : prefix_len p (e ∷ es) ≡ 0 = rw ends refl in
+      absurd (omega (arith, none, le))
+]
+
+-- a page holds no more tuples than there is room for
+pub few_tuples : (page : List ℕ) → 256 ≤ length page → 13 * length (tuples_of page) ≤ length page
+few_tuples page long =
+    omega (arith, length-bytes_of (tuples_of page), length-bytes_of-entries_in (count_of page) (drop 32 page), length-drop 32 page)
+
+-- a tuple whose key is below goes before
+pub prefix_more : (key : ℕ) (e : Entry) (es : List Entry) → e.key < key → prefix_len (is_below key) (e ∷ es) ≡ 1 + prefix_len (is_below key) es
+prefix_more key e es lt = let yes : nat_lt e.key key ≡ true = grind (arith, nat_tests) in rw yes refl

@@ -11,6 +11,11 @@ pub record IsPlace (place : Place) (page : List ℕ) : Type 0 where
   pub tuple : option_map (λ t. entry_of t page) place.tuple ≡ slice_get (tuples_of page) place.index
   pub within : IfSome place.tuple (λ t. t.at + t.len ≤ length page)
 
+-- so many tuples of the page stand before this byte
+pub record IsFront (many end : ℕ) (page : List ℕ) : Type 0 where
+  pub index : many ≤ length (tuples_of page)
+  pub at : end ≡ used_of (take many (tuples_of page))
+
 -- the key of a tuple is below this one
 abbrev pub is_below : ℕ → Entry → Bool
 is_below key e = nat_lt e.key key

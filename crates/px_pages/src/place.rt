@@ -2,7 +2,7 @@
 ghost use Rattle.std.specs.Prelude.{◌≡◌, ◌<◌, ◌≤◌, ◌+◌, length, IfSome, max};
 ghost use Rattle.std.specs.List.{prefix_len};
 ghost use Rattle.px_pages.specs.Page.{IsPageLen, tuples_of, header_len};
-ghost use Rattle.px_pages.specs.Place.{IsPlace, is_below};
+ghost use Rattle.px_pages.specs.Place.{IsPlace, IsFront, is_below};
 
 use crate::header::HEADER;
 use crate::reader::{PageReader, Tuple};
@@ -25,9 +25,23 @@ pub fn find(page: &[u8], key: Vid) -> Place
     ensures place { IsPlace result page.now }
     ensures first { result.index ≡ prefix_len (is_below key) (tuples_of page.now) }
 {
-    let mut reader = PageReader::open(page);
-    let mut index = 0;
-    let mut at = HEADER as u32;
+    let front = Place {
+        index: 0,
+        at: HEADER as u32,
+        tuple: None,
+    };
+    find_from(page, front, key)
+}
+
+/// What `find` finds, where no tuple before this place has a key that is not below. The tuples before it are not walked.
+pub fn find_from(page: &[u8], from: Place, key: Vid) -> Place
+    requires { IsPageLen (length page.now) }
+    ensures place { IsFront from.index from.at page.now → IsPlace result page.now }
+    ensures first { IsFront from.index from.at page.now → from.index ≤ prefix_len (is_below key) (tuples_of page.now) → result.index ≡ prefix_len (is_below key) (tuples_of page.now) }
+{
+    let mut reader = PageReader::behind(page, from.index, from.at);
+    let mut index = from.index;
+    let mut at = from.at;
     while let Some(t) = reader.next(page) {
         if t.key >= key {
             return Place {
@@ -36,7 +50,7 @@ pub fn find(page: &[u8], key: Vid) -> Place
                 tuple: Some(t),
             };
         }
-        index += 1;
+        index = index.saturating_add(1);
         at = t.at + t.len;
     }
     Place {

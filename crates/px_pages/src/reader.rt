@@ -1,5 +1,5 @@
 // Gives the tuples of a page, whoever wrote it.
-ghost use Rattle.std.specs.Prelude.{◌≡◌, ◌<◌, ◌≤◌, ◌+◌, ◌*◌, [], ◌∷◌, length, IfSome, IfNone};
+ghost use Rattle.std.specs.Prelude.{◌≡◌, ◌<◌, ◌≤◌, ◌+◌, ◌-◌, ◌*◌, [], ◌∷◌, length, IfSome, IfNone};
 ghost use Rattle.px_pages.specs.Page.{IsPageLen, tuples_of, used_of, count_of, left_of, entry_of};
 
 use crate::header::{HEADER, count};
@@ -49,6 +49,17 @@ impl PageReader {
         PageReader {
             left: count(page),
             at: HEADER as u32,
+        }
+    }
+
+    // A reader behind so many tuples, which end at this byte.
+    pub(crate) fn behind(page: &[u8], index: u32, at: u32) -> PageReader
+        requires { IsPageLen (length page.now) }
+        ensures { result ≡ record { left = count_of page.now - index; at = at } }
+    {
+        PageReader {
+            left: count(page).saturating_sub(index),
+            at,
         }
     }
 

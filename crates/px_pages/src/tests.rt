@@ -5,8 +5,8 @@ ghost use Rattle.px_pages.specs.Page.{IsPageLen, room_of, tuples_of, link_of, le
 
 use crate::{
     Child, PageReader, PageWriter, Place, Tuple, child_at, child_count, children_to, count, find,
-    find_end, insert, keep_back, keep_front, kind, kinds, link, remove, replace, room, set_link,
-    tags, used,
+    find_end, find_from, insert, keep_back, keep_front, kind, kinds, link, remove, replace, room,
+    set_link, tags, used,
 };
 
 // Two tuples that are no longer than room always fit an empty page.
@@ -189,6 +189,8 @@ fn a_place_is_before_the_first_tuple_not_below(rt: HostRuntime) {
         let place = find(&page, key);
         assert_eq!(rt; (place.index, place.at), (index, at));
         assert_eq!(rt; place.tuple.is_some(), index < 3);
+        assert_eq!(rt; find_from(&page, place, key), place);
+        assert_eq!(rt; find_from(&page, place, 7), find(&page, 7));
     }
     for (limit, index) in [(0, 0), (45, 0), (46, 1), (60, 1), (61, 2), (255, 3)] {
         assert_eq!(rt; find_end(&page, limit).index, index);
@@ -245,6 +247,7 @@ fn a_page_of_any_bytes_is_edited_without_harm(rt: HostRuntime) {
         ] {
             let mut copy = page;
             insert(&mut copy, place, 1, tags::VERTEX, b"a");
+            find_from(&page, place, 1);
             keep_front(&mut copy, place);
             keep_back(&mut copy, place);
             if place.tuple.is_some() {
