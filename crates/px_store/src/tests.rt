@@ -9,6 +9,8 @@ ghost use Rattle.px_cache.specs.View.{AnyFile};
 ghost use Rattle.px_store.specs.Desks.{IsReady, IsDone, SameDesk, GivesNext};
 ghost use Rattle.px_store.specs.Lists.{AreParts, HoldAll, change, found_in};
 
+mod joining;
+
 use crate::{Desk, Store};
 use px_core::{Disk, Stop};
 use px_record::VertexBuf;
