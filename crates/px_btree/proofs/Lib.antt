@@ -1,0 +1,17 @@
+pub mod Orders
+pub mod Calls
+pub mod Items
+pub mod Levels
+pub mod Places
+pub mod Scanning
+pub mod Putting
+pub mod Marking
+pub mod Starting
+pub mod Filling
+pub mod Building
+pub mod Splitting
+pub mod Halving
+pub mod Rising
+pub mod Parting
+pub mod Stacking
+pub mod Growing

@@ -1,0 +1,10 @@
+pub mod Search
+pub mod Tree
+pub mod Find
+pub mod Scan
+pub mod Put
+pub mod Fresh
+pub mod Fill
+pub mod Split
+pub mod Rise
+pub mod Staying
