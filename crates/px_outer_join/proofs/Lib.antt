@@ -1,0 +1,2 @@
+pub mod Dueing
+pub mod Taking
