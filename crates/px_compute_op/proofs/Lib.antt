@@ -1,0 +1,5 @@
+pub mod Taking
+pub mod Apart
+pub mod Rows
+pub mod Moving
+pub mod Dones
