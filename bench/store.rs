@@ -1,5 +1,5 @@
-// The yardstick for a store of records, in plain Rust: `store PART N` does one part of the work of `px_bench store PART N
-// FOLDER` over std's `BTreeMap` of byte vectors, with N records of 40 bytes, and comes to the same checksum.
+// The yardstick for a store of records, in plain Rust: `store PART N FOLDER` does one part of the work of `px_bench store PART N
+// FOLDER` in memory, over std's `BTreeMap` of byte vectors, with N records of 40 bytes, and comes to the same checksum.
 //
 //     load     puts the records in ascending order of their vids
 //     scan     loads them, and then reads all in order
@@ -106,8 +106,8 @@ fn run(part: &str, count: u64) -> Option<(Tally, Duration)> {
 
 fn main() -> Result<(), Box<dyn Error>> {
     let words: Vec<String> = env::args().skip(1).collect();
-    let [part, count] = words.as_slice() else {
-        return Err("usage: store PART N".into());
+    let [part, count, _] = words.as_slice() else {
+        return Err("usage: store PART N FOLDER".into());
     };
     let (tally, spent) = run(part, count.parse()?).ok_or("there is no such part")?;
     eprintln!("{:.6}", spent.as_secs_f64());

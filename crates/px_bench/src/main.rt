@@ -5,12 +5,17 @@
 //!     px_bench streams N FOLDER   writes N tuples to a file of a disk in FOLDER and reads them back
 //!     px_bench merge N FOLDER     writes 16 runs of N tuples to a file of a disk in FOLDER and merges them
 //!     px_bench group N FOLDER     groups N pairs by sorting, with files of a disk in FOLDER
+//!     px_bench store PART N FOLDER
+//!                                 does PART (load, scan, get, same, grow, random) of the work with a store of N records,
+//!                                 with files of a disk in FOLDER and a cache of 22 frames of 262144 bytes
+//!     px_bench small PART N FOLDER
+//!                                 the same with a cache of 256 frames of 4096 bytes
 //!     px_bench rank N             loads N vertices, computes them and stores them, in ten rounds
 //!     px_bench print N            prints N values as ranks and as distances
 //!     px_bench                    does a little of each
 //!
 //! What a job came to goes to standard output, and the seconds that it took to standard error.
-//! The files of `streams`, `merge` and `group` stay. Without words nothing is timed, and the files are removed.
+//! The files of `streams`, `merge`, `group`, `store` and `small` stay. Without words nothing is timed, and the files are removed.
 #![tactic(auto)]
 
 mod group;
@@ -20,9 +25,11 @@ mod parse;
 mod print;
 mod rank;
 mod record;
+mod store;
 mod streams;
 mod tally;
 
+use crate::store::{Frames, PARTS, Part};
 use crate::tally::Tally;
 use anyhow::{Result, bail};
 use px_core::MemSource;
@@ -47,6 +54,8 @@ enum Job {
     Merge(u64),
     /// So many pairs, with files of the folder that the last word names.
     Group(u64),
+    /// A part of the work with so many records, over these frames and in a file of the folder that the last word names.
+    Store(Frames, Part, u64),
     /// So many vertices.
     Rank(u64),
     /// So many values.
@@ -68,6 +77,12 @@ const LITTLE_MERGE: &str = "px_bench_merge";
 const LITTLE_RUNS: &str = "px_bench_merge/f0";
 
 const LITTLE_GROUP: &str = "px_bench_group";
+
+const LITTLE_STORE: &str = "px_bench_store";
+
+const LITTLE_RECORDS: u64 = 6_000;
+
+const LITTLE_TREE: &str = "px_bench_store/f0";
 
 const LITTLE_COUNT: u64 = 100;
 
@@ -95,12 +110,24 @@ fn filed_job(name: &str, count: u64) -> Option<Job> {
     }
 }
 
+fn store_job(name: &str, part: &str, count: u64) -> Option<Job> {
+    let part = store::part_of(part)?;
+    if name == "store" {
+        Some(Job::Store(Frames::Large, part, count))
+    } else if name == "small" {
+        Some(Job::Store(Frames::Small, part, count))
+    } else {
+        None
+    }
+}
+
 fn job_of(words: &[String]) -> Option<Job> {
     match words {
         [] => Some(Job::Little),
         [name] if name.as_str() == "parse" => Some(Job::Parse),
         [name, count] => counted_job(name.as_str(), count.parse().ok()?),
         [name, count, _] => filed_job(name.as_str(), count.parse().ok()?),
+        [name, part, count, _] => store_job(name.as_str(), part.as_str(), count.parse().ok()?),
         _ => None,
     }
 }
@@ -125,40 +152,62 @@ fn print_seconds(rt: &HostRuntime, start: Instant) -> Result<()> {
     Ok(())
 }
 
-fn do_little(rt: HostRuntime) -> Result<()> {
+// A little of the jobs that need no files.
+fn little_in_memory(rt: &HostRuntime) -> Result<()> {
     let alloc = rt.alloc();
     let mut source = MemSource::new(alloc, LITTLE_TEXT, &[])?;
-    print_tally(&rt, "pages", pages::run(alloc, LITTLE_PAGES)?, "tuples")?;
-    print_tally(&rt, "parse", parse::run(alloc, &mut source)?, "vertices")?;
-    let mut disk = FileDisk::new(rt, alloc, LITTLE_FOLDER)?;
-    print_streams(&rt, streams::run(alloc, &mut disk, LITTLE_TUPLES)?)?;
+    print_tally(rt, "pages", pages::run(alloc, LITTLE_PAGES)?, "tuples")?;
+    print_tally(rt, "parse", parse::run(alloc, &mut source)?, "vertices")?;
+    let records = rank::build(alloc, LITTLE_COUNT)?;
+    let ranked = rank::run(alloc, &records, LITTLE_COUNT)?;
+    print_tally(rt, "rank", ranked, "vertices")?;
+    print_tally(rt, "print", print::run(alloc, LITTLE_COUNT)?, "bytes")
+}
+
+fn little_streams(rt: HostRuntime) -> Result<()> {
+    let mut disk = FileDisk::new(rt, rt.alloc(), LITTLE_FOLDER)?;
+    print_streams(&rt, streams::run(rt.alloc(), &mut disk, LITTLE_TUPLES)?)?;
     fs::remove_file(&rt, LITTLE_FILE)?;
     fs::remove_dir(&rt, LITTLE_FOLDER)?;
-    let mut disk = FileDisk::new(rt, alloc, LITTLE_MERGE)?;
-    print_tally(
-        &rt,
-        "merge",
-        merge::run(alloc, &mut disk, LITTLE_TUPLES)?,
-        "tuples",
-    )?;
+    Ok(())
+}
+
+fn little_merge(rt: HostRuntime) -> Result<()> {
+    let mut disk = FileDisk::new(rt, rt.alloc(), LITTLE_MERGE)?;
+    let tally = merge::run(rt.alloc(), &mut disk, LITTLE_TUPLES)?;
+    print_tally(&rt, "merge", tally, "tuples")?;
     fs::remove_file(&rt, LITTLE_RUNS)?;
     fs::remove_dir(&rt, LITTLE_MERGE)?;
-    let mut disk = FileDisk::new(rt, alloc, LITTLE_GROUP)?;
-    print_tally(
-        &rt,
-        "group",
-        group::run::<_, SortGroup>(alloc, &mut disk, LITTLE_TUPLES)?,
-        "vids",
-    )?;
+    Ok(())
+}
+
+fn little_group(rt: HostRuntime) -> Result<()> {
+    let mut disk = FileDisk::new(rt, rt.alloc(), LITTLE_GROUP)?;
+    let tally = group::run::<_, SortGroup>(rt.alloc(), &mut disk, LITTLE_TUPLES)?;
+    print_tally(&rt, "group", tally, "vids")?;
     fs::remove_dir(&rt, LITTLE_GROUP)?;
-    let records = rank::build(alloc, LITTLE_COUNT)?;
-    print_tally(
-        &rt,
-        "rank",
-        rank::run(alloc, &records, LITTLE_COUNT)?,
-        "vertices",
-    )?;
-    print_tally(&rt, "print", print::run(alloc, LITTLE_COUNT)?, "bytes")
+    Ok(())
+}
+
+// All parts of the work with a store whose cache has these frames.
+fn little_store(rt: HostRuntime, frames: Frames) -> Result<()> {
+    let mut disk = FileDisk::new(rt, rt.alloc(), LITTLE_STORE)?;
+    for part in PARTS {
+        let (tally, _) = store::run(&rt, &mut disk, frames, part, LITTLE_RECORDS)?;
+        print_tally(&rt, part.name(), tally, "records")?;
+    }
+    fs::remove_file(&rt, LITTLE_TREE)?;
+    fs::remove_dir(&rt, LITTLE_STORE)?;
+    Ok(())
+}
+
+fn do_little(rt: HostRuntime) -> Result<()> {
+    little_in_memory(&rt)?;
+    little_streams(rt)?;
+    little_merge(rt)?;
+    little_group(rt)?;
+    little_store(rt, Frames::Large)?;
+    little_store(rt, Frames::Small)
 }
 
 fn time_pages(rt: &HostRuntime, pages: u64) -> Result<()> {
@@ -209,6 +258,22 @@ fn time_group(rt: HostRuntime, count: u64, folder: Option<&String>) -> Result<()
     print_tally(&rt, "group", tally, "vids")
 }
 
+fn time_store(
+    rt: HostRuntime,
+    frames: Frames,
+    part: Part,
+    count: u64,
+    folder: Option<&String>,
+) -> Result<()> {
+    let Some(folder) = folder else {
+        bail!("there is no folder");
+    };
+    let mut disk = FileDisk::new(rt, rt.alloc(), folder.as_str())?;
+    let (tally, spent) = store::run(&rt, &mut disk, frames, part, count)?;
+    eprintln!(rt; "{:.6}", spent.as_secs_f64())?;
+    print_tally(&rt, part.name(), tally, "records")
+}
+
 fn time_rank(rt: &HostRuntime, count: u64) -> Result<()> {
     let records = rank::build(rt.alloc(), count)?;
     let start = Instant::now(rt)?;
@@ -236,10 +301,13 @@ fn main(rt: HostRuntime) -> Result<()> {
         Some(Job::Streams(count)) => time_streams(rt, count, words.last()),
         Some(Job::Merge(count)) => time_merge(rt, count, words.last()),
         Some(Job::Group(count)) => time_group(rt, count, words.last()),
+        Some(Job::Store(frames, part, count)) => {
+            time_store(rt, frames, part, count, words.last())
+        }
         Some(Job::Rank(count)) => time_rank(&rt, count),
         Some(Job::Print(count)) => time_print(&rt, count),
         None => bail!(
-            "the words are `pages N`, `parse`, `streams N FOLDER`, `merge N FOLDER`, `group N FOLDER`, `rank N` or `print N`"
+            "the words are `pages N`, `parse`, `streams N FOLDER`, `merge N FOLDER`, `group N FOLDER`, `store PART N FOLDER`, `small PART N FOLDER`, `rank N` or `print N`"
         ),
     }
 }

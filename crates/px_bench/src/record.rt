@@ -1,5 +1,5 @@
 // A vertex in a frame of its own.
-ghost use Rattle.std.specs.Prelude.{◌-◌, ◌/◌};
+ghost use Rattle.std.specs.Prelude.{◌≡◌, ◌-◌, ◌/◌, IfOk};
 ghost use Rattle.px_record.specs.Held.{IsRoomOf};
 
 use px_frames::Frame;
@@ -9,6 +9,7 @@ use std::alloc::{AllocError, Global};
 /// A fresh vertex over a frame of so many bytes.
 pub fn record_of(alloc: Global, frame_bytes: u32) -> Result<VertexBuf, AllocError>
     requires { IsRoomOf (frame_bytes / 2 - 16) frame_bytes }
+    ensures { IfOk result (λ v. v.room ≡ frame_bytes / 2 - 16) }
 {
     let frame = Frame::new(alloc, frame_bytes)?;
     Ok(VertexBuf::over(frame, frame_bytes / 2 - 16))
