@@ -5,6 +5,3 @@ mod due;
 mod outer;
 
 pub use outer::OuterJoin;
-
-#[cfg(test)]
-mod tests;
