@@ -1,3 +1,4 @@
 pub mod Slots
 pub mod BankLaws
 pub mod Tables
+pub mod Places

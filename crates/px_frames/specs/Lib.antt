@@ -7,3 +7,4 @@ pub mod Tables
 pub mod Entries
 pub mod Banks
 pub mod Slots
+pub mod Placed

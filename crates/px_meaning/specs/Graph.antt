@@ -25,9 +25,13 @@ size_of value edges = 22 + value + 12 * edges
 abbrev pub vertex_size : Vertex → ℕ
 vertex_size x = size_of (length x.value) (length x.edges)
 
+-- the bytes of what is stored in a page before its body
+abbrev pub front_len : ℕ
+front_len = 13
+
 -- the size of a message with this payload, and of a request with this verdict
 abbrev pub pair_size : List ℕ → ℕ
-pair_size bytes = 13 + length bytes
+pair_size bytes = front_len + length bytes
 
 -- nothing of a greater size is stored, where frames have so many bytes
 abbrev pub room_of : ℕ → ℕ

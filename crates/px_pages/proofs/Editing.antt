@@ -1,6 +1,6 @@
 -- The bytes of a page that is changed in its place.
 use Rattle.std.proofs.Common.{◌≡◌, ◌≤◌, ◌+◌, ◌-◌, ℕ, max, List, [], ◌∷◌, ◌++◌, length, take, drop, refl, sym, ◌∙◌, ap, subst, arith}
-use Rattle.std.proofs.lemmas.List.{take_at, take_rest, drop_at, drop_all, append-nil, append_assoc, length-append, length-drop, length-take-le, drop-drop, drop-replicate, replicate-append-replicate}
+use Rattle.std.proofs.lemmas.List.{take_at, take_rest, drop_at, drop_all, append-nil, append_assoc, take-append-drop, length-append, length-drop, length-take-le, drop-drop, drop-replicate, replicate-append-replicate}
 use Rattle.std.proofs.lemmas.List.Edits.{take-paste, drop-paste}
 use Rattle.std.specs.List.{copy_within}
 use borrow.Rule.Slice.PartMut.{put_mid}
@@ -37,6 +37,17 @@ gap_back old moved new from to used n top le_to le_used le_len room is_moved is_
     ap (λ (l : List ℕ). zeros (top - end) ++ l) rest ∙ replicate-append-replicate {A = ℕ} (top - end) (long - top) 0 ∙ (let k : top - end + (long - top) ≡ long - end = omega (arith, over, most) in ap zeros k) in
     let whole : new ≡ a ++ (b ++ zeros (long - end)) = is_new ∙ ap (λ (l : List ℕ). l ++ (zeros (top - end) ++ drop top moved)) front ∙ ap (λ (l : List ℕ). (a ++ b) ++ l) zero ∙ append_assoc a b (zeros (long - end)) in
     ap (drop at) whole ∙ drop_at a (b ++ zeros (long - end)) at (length-take-le at old (omega (arith, room)))
+
+-- a gap that is as long as what came before moves nothing
+pub gap_kept : (page : List ℕ) (from to used n : ℕ) → to ≤ used → used ≤ length page → from + n ≡ to → drop used page ≡ zeros (length page - used)
+    → drop (from + n) page ≡ take (used - to) (drop to page) ++ zeros (length page - (from + n + (used - to)))
+gap_kept page from to used n le_to le_used at tail =
+    let m = used - to in
+    let far : m + to ≡ used = omega (arith, le_to) in
+    let far' : to + m ≡ used = omega (arith, le_to) in
+    let rest : drop m (drop to page) ≡ zeros (length page - used) = drop-drop m to page ∙ ap (λ (k : ℕ). drop k page) far' ∙ tail in
+    let end : length page - used ≡ length page - (from + n + m) = omega (arith, le_to, at) in
+    ap (λ (k : ℕ). drop k page) at ∙ sym (take-append-drop m (drop to page)) ∙ ap (λ (l : List ℕ). take m (drop to page) ++ l) (rest ∙ ap zeros end)
 
 pub bytes_join : (xs ys : List Entry) → bytes_of (xs ++ ys) ≡ bytes_of xs ++ bytes_of ys
 bytes_join [] ys = refl

@@ -1,7 +1,8 @@
 -- The children of an inner page.
 use Rattle.std.specs.Prelude.{◌≡◌, ◌-◌, ◌/◌, ◌+◌, ℕ, Bool, List, [], ◌∷◌, length, min, not, nat_lt}
 use Rattle.byteorder.specs.Endian.{big_number}
-use Rattle.px_pages.specs.Entry.{Entry, front_len}
+use Rattle.px_meaning.specs.Graph.{front_len}
+use Rattle.px_pages.specs.Entry.{Entry}
 use Rattle.px_pages.specs.Page.{count_of, header_len}
 use Rattle.px_pages.specs.declared.inner.Child.{Child}
 

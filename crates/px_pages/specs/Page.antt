@@ -1,5 +1,5 @@
 -- Pages of tuples.
-use Rattle.std.specs.Prelude.{◌≡◌, ◌<◌, ◌≤◌, ℕ, ◌+◌, ◌-◌, ◌/◌, ◌^◌, List, ◌∷◌, ◌++◌, length, take, drop, slice_index, replicate}
+use Rattle.std.specs.Prelude.{◌≡◌, ◌<◌, ◌≤◌, ℕ, ◌+◌, ◌-◌, ◌^◌, List, ◌∷◌, ◌++◌, length, take, drop, slice_index, replicate}
 use Rattle.byteorder.specs.Endian.{big_bytes, big_number}
 use Rattle.px_pages.specs.Entry.{Entry, AreEntries, bytes_of, entries_in}
 use Rattle.px_pages.specs.declared.reader.Tuple.{Tuple}
@@ -11,10 +11,6 @@ IsPageLen n = (256 ≤ n) × (n ≤ 1048576)
 -- the bytes of a page's header
 abbrev pub header_len : ℕ
 header_len = 32
-
--- half of what a page has for tuples
-abbrev pub room_of : ℕ → ℕ
-room_of page_len = page_len / 2 - header_len / 2
 
 -- the fields of a page's header
 abbrev pub kind_of : List ℕ → ℕ

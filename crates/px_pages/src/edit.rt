@@ -1,7 +1,8 @@
 // Changes the tuples of a page in its place. It may hold any bytes: what is said of its tuples holds where a writer made it.
 ghost use Rattle.std.specs.Prelude.{◌≡◌, ◌≤◌, ◌<◌, ◌+◌, ◌-◌, ◌++◌, ◌^◌, [], ◌∷◌, length, take, drop, slice_set, IsTrue, IsSome, IfSome, IsFalse, ◌↔◌, ℕ, List};
 ghost use Rattle.std.specs.List.{copy_within, insert, remove};
-ghost use Rattle.px_pages.specs.Entry.{Entry, entry, front_len};
+ghost use Rattle.px_meaning.specs.Graph.{front_len};
+ghost use Rattle.px_pages.specs.Entry.{Entry, entry};
 ghost use Rattle.px_pages.specs.Page.{IsPageLen, IsMade, used_of, used_at, writer_of, zeros};
 ghost use Rattle.px_pages.specs.Place.{IsPlace, Turned, Overflows};
 ghost use Rattle.px_pages.specs.Gap.{FitsIn, Fills};
@@ -49,6 +50,9 @@ fn make_gap(page: &mut [u8], gap: Gap)
     ensures front { take gap.from page.new ≡ take gap.from page.old }
     ensures back { drop gap.end page.old ≡ zeros (length page.old - gap.end) → drop (gap.from + gap.len) page.new ≡ take (gap.end - gap.to) (drop gap.to page.old) ++ zeros (length page.old - (gap.from + gap.len + (gap.end - gap.to))) }
 {
+    if gap.from + gap.len == gap.to {
+        return;
+    }
     let end = gap.from + gap.len + (gap.end - gap.to);
     shift(page, gap.to, gap.end, gap.from + gap.len);
     wipe(page, end, gap.end.max(end));

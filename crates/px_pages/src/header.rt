@@ -78,8 +78,8 @@ pub(crate) fn set_kind(page: &mut [u8], kind: u8)
     page[KIND] = kind;
 }
 
-// Writes the two numbers that change with each tuple.
-pub(crate) fn put_counts(page: &mut [u8], count: u32, used: u32)
+/// Writes the two numbers that change with each tuple: how many there are, and the bytes that hold something.
+pub fn put_counts(page: &mut [u8], count: u32, used: u32)
     requires { 12 ≤ length page.old }
     ensures { page.new ≡ take 4 page.old ++ big_bytes 4 count ++ big_bytes 4 used ++ drop 12 page.old }
 {

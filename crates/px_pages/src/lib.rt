@@ -11,11 +11,11 @@ pub mod tags;
 mod writer;
 
 pub use edit::{insert, keep_back, keep_front, remove, replace};
-pub use header::{count, kind, link, set_link, used};
+pub use header::{count, kind, link, put_counts, set_link, used};
 pub use inner::{Child, child_at, child_count, children_to};
 pub use place::{Place, find, find_end, find_from};
 pub use reader::{PageReader, Tuple};
-pub use writer::{PageWriter, room};
+pub use writer::{PageWriter, put_entry, room};
 
 #[cfg(test)]
 mod tests;

@@ -1,6 +1,7 @@
 // Finds places among the tuples of a page, whoever wrote it.
 ghost use Rattle.std.specs.Prelude.{◌≡◌, ◌<◌, ◌≤◌, ◌+◌, length, IfSome, max};
 ghost use Rattle.std.specs.List.{prefix_len};
+ghost use Rattle.px_meaning.specs.Graph.{front_len};
 ghost use Rattle.px_pages.specs.Page.{IsPageLen, tuples_of, header_len};
 ghost use Rattle.px_pages.specs.Place.{IsPlace, IsFront, is_below};
 
@@ -38,6 +39,7 @@ pub fn find_from(page: &[u8], from: Place, key: Vid) -> Place
     requires { IsPageLen (length page.now) }
     ensures place { IsFront from.index from.at page.now → IsPlace result page.now }
     ensures first { IsFront from.index from.at page.now → from.index ≤ prefix_len (is_below key) (tuples_of page.now) → result.index ≡ prefix_len (is_below key) (tuples_of page.now) }
+    ensures within { IfSome result.tuple (λ t. t.at + t.len ≤ length page.now) }
 {
     let mut reader = PageReader::behind(page, from.index, from.at);
     let mut index = from.index;
@@ -66,6 +68,7 @@ pub fn find_end(page: &[u8], limit: u32) -> Place
     ensures place { IsPlace result page.now }
     ensures within { result.at ≤ max header_len limit }
     ensures last { IfSome result.tuple (λ t. limit < t.at + t.len) }
+    ensures front { IfSome result.tuple (λ t. t.at ≡ result.at + front_len) }
 {
     let mut reader = PageReader::open(page);
     let mut index = 0;

@@ -1,7 +1,8 @@
 // What no clause says: bytes from outside, and callers that stand on the clauses alone.
 ghost use Rattle.std.specs.Prelude.{◌≡◌, ◌≤◌, ◌+◌, ◌↔◌, [], ◌∷◌, length, IsTrue};
 ghost use Rattle.px_pages.specs.Entry.{entry};
-ghost use Rattle.px_pages.specs.Page.{IsPageLen, room_of, tuples_of, link_of, left_of};
+ghost use Rattle.px_meaning.specs.Graph.{room_of};
+ghost use Rattle.px_pages.specs.Page.{IsPageLen, tuples_of, link_of, left_of};
 
 use crate::{
     Child, PageReader, PageWriter, Place, Tuple, child_at, child_count, children_to, count, find,

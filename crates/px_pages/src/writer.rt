@@ -8,7 +8,8 @@
 ghost use Rattle.std.specs.Prelude.{◌≡◌, ◌<◌, ◌≤◌, ◌+◌, ◌^◌, ◌↔◌, [], ◌∷◌, ◌++◌, ℕ, length, drop, IsTrue};
 ghost use Rattle.byteorder.specs.Endian.{big_bytes};
 ghost use Rattle.px_pages.specs.Entry.{entry, entry_bytes};
-ghost use Rattle.px_pages.specs.Page.{IsPageLen, IsWritten, room_of, tuples_of, kind_of, count_of, link_of};
+ghost use Rattle.px_meaning.specs.Graph.{room_of};
+ghost use Rattle.px_pages.specs.Page.{IsPageLen, IsWritten, tuples_of, kind_of, count_of, link_of};
 
 use crate::header::{HEADER, put_counts, set_kind};
 use byteorder::{BigEndian, ByteOrder};
@@ -97,7 +98,7 @@ impl PageWriter {
 }
 
 // Writes a tuple at the front.
-pub(crate) fn put_entry(out: &mut [u8], key: Vid, tag: u8, body: &[u8])
+pub fn put_entry(out: &mut [u8], key: Vid, tag: u8, body: &[u8])
     requires room { 13 + length body.now ≤ length out.old }
     requires short { length body.now < 2 ^ 32 }
     ensures { out.new ≡ entry_bytes (entry key tag body.now) ++ drop (13 + length body.now) out.old }

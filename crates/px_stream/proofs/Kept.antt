@@ -3,9 +3,8 @@ use Rattle.std.proofs.Common.{◌≡◌, ℕ, ◌≤◌, List, length, take, dro
 use Rattle.std.proofs.lemmas.List.{length-take}
 use Rattle.std.specs.Prelude.{Option, Some, None}
 use Rattle.std.specs.Option.{option_map}
-use Rattle.px_core.specs.Shown.{Shown, Only, Touches, written}
+use Rattle.px_core.specs.Shown.{Shown, Only, Touches, written, Tells}
 use Rattle.px_core.specs.Same.{Same, SameBelow}
-use Rattle.px_core.specs.Told.{Tells}
 use Rattle.px_core.proofs.Keeping.{tells_same}
 use Rattle.px_core.proofs.Pages.{take_fewer, drop_written, length_written}
 use Rattle.px_core.proofs.Telling.{tells_written}

@@ -3,12 +3,12 @@ use Rattle.std.proofs.Common.{◌≡◌, ℕ, zero, suc, ◌+◌, ◌<◌, ◌�
 use Rattle.std.proofs.lemmas.Bool.Decides.{nat_tests}
 use Rattle.std.proofs.lemmas.List.{drop_all, length-drop, length-take}
 use Rattle.std.specs.Prelude.{slice_get, Option, Some, None, IfSome, IfNone, OnSome, ⊤}
-use Rattle.px_core.specs.Shown.{Shown, Touches, NoFile, Gives}
-use Rattle.px_core.specs.Told.{Tells}
+use Rattle.px_core.specs.Shown.{Shown, Touches, NoFile, Gives, Tells}
 use Rattle.px_core.proofs.Pages.{drop_first, get_first}
 use Rattle.px_core.proofs.Telling.{tells_kept}
 use Rattle.px_pages.specs.Entry.{Entry, entry, entries_in}
-use Rattle.px_pages.specs.Page.{PageReaderView, tuples_of, room_of}
+use Rattle.px_meaning.specs.Graph.{room_of}
+use Rattle.px_pages.specs.Page.{PageReaderView, tuples_of}
 use Rattle.px_stream.specs.Views.{ReaderView, here_of}
 use Rattle.px_stream.specs.Stream.{ToGive, Leads, Shows, AllFit, all_tuples, first_body, body_within, tuple}
 use Rattle.px_stream.specs.declared.reader.Head.{Head}

@@ -2,13 +2,13 @@
 use Rattle.std.proofs.Common.{◌≡◌, ℕ, ◌+◌, ◌<◌, ◌≤◌, List, [], ◌∷◌, ◌++◌, length, take, drop, sym, ◌∙◌, ap, subst, arith, append_assoc}
 use Rattle.std.proofs.lemmas.List.{append-nil, length-append, drop_all}
 use Rattle.std.proofs.Math.Seq.{take-length}
-use Rattle.px_core.specs.Shown.{Shown, Touches, HasRoom, written}
-use Rattle.px_core.specs.Told.{Tells, TellsPages}
+use Rattle.px_core.specs.Shown.{Shown, Touches, HasRoom, written, Tells, TellsPages}
 use Rattle.std.specs.Option.{option_map}
 use Rattle.px_core.proofs.Pages.{written_end, drop_push}
 use Rattle.px_core.proofs.Telling.{tells_written}
 use Rattle.px_pages.specs.Entry.{Entry}
-use Rattle.px_pages.specs.Page.{PageWriterView, kind_of, link_of, tuples_of, page_of, room_of}
+use Rattle.px_meaning.specs.Graph.{room_of}
+use Rattle.px_pages.specs.Page.{PageWriterView, kind_of, link_of, tuples_of, page_of}
 use Rattle.px_stream.specs.Views.{WriterView, IsPage}
 use Rattle.px_core.specs.Counts.{bumped_by}
 use Rattle.px_stream.specs.Stream.{Took, Has, AllFit, AreStreamPages, all_tuples}

@@ -1,9 +1,9 @@
 -- What a stream holds, where its disk tells.
 use Rattle.std.specs.Prelude.{◌≡◌, ◌≤◌, ℕ, ◌+◌, if◌then◌else◌, nat_le, List, [], ◌∷◌, ◌++◌, length, take, drop}
-use Rattle.px_core.specs.Shown.{Shown}
-use Rattle.px_core.specs.Told.{Tells}
+use Rattle.px_core.specs.Shown.{Shown, Tells}
 use Rattle.px_pages.specs.Entry.{Entry, entry}
-use Rattle.px_pages.specs.Page.{tuples_of, page_of, room_of}
+use Rattle.px_meaning.specs.Graph.{room_of}
+use Rattle.px_pages.specs.Page.{tuples_of, page_of}
 use Rattle.px_stream.specs.Views.{WriterView, ReaderView}
 use Rattle.px_stream.specs.declared.reader.Head.{Head}
 

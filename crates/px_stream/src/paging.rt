@@ -1,9 +1,9 @@
 // The calls of a disk on a frame, with Scratch for their faults.
 ghost use Rattle.std.specs.Prelude.{◌≡◌, ◌≤◌, ◌+◌, ℕ, List, [], length, true, OnOk, OnErr, IfErr};
 ghost use Rattle.std.specs.Option.{option_map};
-ghost use Rattle.px_core.specs.Shown.{Only, NoFile, Worked, StopsAt, Gives, HasRoom, written};
-ghost use Rattle.px_core.specs.Told.{Tells};
-ghost use Rattle.px_pages.specs.Page.{IsPageLen, tuples_of, room_of};
+ghost use Rattle.px_core.specs.Shown.{Only, NoFile, Worked, StopsAt, Gives, HasRoom, written, Tells};
+ghost use Rattle.px_meaning.specs.Graph.{room_of};
+ghost use Rattle.px_pages.specs.Page.{IsPageLen, tuples_of};
 ghost use Rattle.px_stream.specs.Views.{IsPage};
 ghost use Rattle.px_stream.specs.Stream.{tuple, lone_page};
 

@@ -3,7 +3,8 @@ ghost use Rattle.std.specs.Prelude.{◌≡◌, ◌≢◌, ◌<◌, ◌≤◌, �
 ghost use Rattle.px_core.specs.Shown.{Shown, Only, NoFile, Worked, StopsAt, Idle};
 ghost use Rattle.px_frames.specs.Buffer.{SameRoom, IsWithin};
 ghost use Rattle.px_pages.specs.Entry.{Entry};
-ghost use Rattle.px_pages.specs.Page.{IsPageLen, room_of, entry_of};
+ghost use Rattle.px_meaning.specs.Graph.{room_of};
+ghost use Rattle.px_pages.specs.Page.{IsPageLen, entry_of};
 ghost use Rattle.px_stream.specs.Views.{here_of};
 
 use crate::paging::read_page;

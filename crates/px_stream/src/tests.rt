@@ -3,7 +3,7 @@ ghost use Rattle.std.specs.Prelude.{◌≡◌, ◌≢◌, ◌≤◌, ◌+◌, �
 ghost use Rattle.px_core.specs.Counts.{bumped};
 ghost use Rattle.px_core.specs.Shown.{Shown};
 ghost use Rattle.px_pages.specs.Entry.{Entry};
-ghost use Rattle.px_pages.specs.Page.{room_of};
+ghost use Rattle.px_meaning.specs.Graph.{room_of};
 ghost use Rattle.px_stream.specs.Stream.{Took, Holds, ToGive, first_body};
 
 use crate::{Reader, Writer};

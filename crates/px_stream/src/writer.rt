@@ -1,11 +1,11 @@
 // A file of tuples is written.
 ghost use Rattle.std.specs.Prelude.{◌≡◌, ◌≤◌, ◌+◌, ◌++◌, ◌↔◌, [], ◌∷◌, ℕ, List, length, true, IsTrue, IsOk, OnOk, OnErr, IfErr};
 ghost use Rattle.std.specs.Option.{option_map};
-ghost use Rattle.px_core.specs.Shown.{Shown, Only, Worked, StopsAt, Idle, HasRoom, written};
+ghost use Rattle.px_core.specs.Shown.{Shown, Only, Worked, StopsAt, Idle, HasRoom, written, Tells, TellsPages};
 ghost use Rattle.px_core.specs.Same.{SameBelow};
-ghost use Rattle.px_core.specs.Told.{Tells, TellsPages};
 ghost use Rattle.px_pages.specs.Entry.{Entry, entry};
-ghost use Rattle.px_pages.specs.Page.{IsPageLen, room_of, used_of, tuples_of};
+ghost use Rattle.px_meaning.specs.Graph.{room_of};
+ghost use Rattle.px_pages.specs.Page.{IsPageLen, used_of, tuples_of};
 ghost use Rattle.px_stream.specs.Views.{IsPage};
 ghost use Rattle.px_stream.specs.Stream.{Took, Has, tuple, lone_page};
 ghost use Rattle.px_stream.specs.Counts.{Fits, SameWriter, Wrote, pages_before, here_after, pages_of};

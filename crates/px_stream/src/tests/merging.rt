@@ -2,7 +2,7 @@
 ghost use Rattle.std.specs.Prelude.{◌≡◌, ◌≢◌, ◌<◌, ◌≤◌, ◌+◌, ◌++◌, [], ◌∷◌, List, length, true, OnOk, IfOk, IfErr, IfSome, IfNone, OnSome};
 ghost use Rattle.px_core.specs.Shown.{NoFile, Only, Either, Clean, Broke};
 ghost use Rattle.px_pages.specs.Entry.{Entry, entry};
-ghost use Rattle.px_pages.specs.Page.{room_of};
+ghost use Rattle.px_meaning.specs.Graph.{room_of};
 ghost use Rattle.px_stream.specs.Stream.{Took, Has, ToGive, tuple};
 ghost use Rattle.px_stream.specs.Counts.{SameWriter, SameReader, left};
 ghost use Rattle.px_stream.specs.Merged.{merged, goes_first, LeadsBoth};

@@ -1,6 +1,6 @@
-use Rattle.std.proofs.Common.{◌≡◌, ◌≤◌, ◌+◌, length, take, drop}
+use Rattle.std.proofs.Common.{◌≡◌, ◌≤◌, ◌+◌, drop}
 use Rattle.std.specs.List.{prefix_len}
-use Rattle.px_pages.specs.Page.{tuples_of, left_of, used_of}
+use Rattle.px_pages.specs.Page.{tuples_of, left_of}
 use Rattle.px_pages.specs.Place.{IsFront, is_below}
 use Rattle.px_pages.proofs.place.find_from.Given as goal
 

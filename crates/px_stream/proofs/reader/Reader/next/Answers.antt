@@ -1,5 +1,5 @@
 use Rattle.std.proofs.Common.{◌≤◌, ◌+◌, ◌∙◌, sym, subst, ℕ}
-use Rattle.px_pages.specs.Page.{room_of}
+use Rattle.px_meaning.specs.Graph.{room_of}
 use Rattle.px_stream.proofs.Reading.{nothing_given, head_given}
 use Rattle.px_stream.proofs.reader.Reader.next.Goals as goal
 

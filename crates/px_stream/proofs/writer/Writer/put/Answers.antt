@@ -1,6 +1,6 @@
 use Rattle.std.proofs.Common.{◌≤◌, ◌+◌, length, refl}
 use Rattle.px_pages.specs.Entry.{entry}
-use Rattle.px_pages.specs.Page.{room_of}
+use Rattle.px_meaning.specs.Graph.{room_of}
 use Rattle.px_stream.proofs.Writing.{took_put}
 use Rattle.px_stream.proofs.writer.Writer.put.Goals as goal
 
