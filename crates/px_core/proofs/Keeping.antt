@@ -2,9 +2,8 @@
 use Rattle.std.proofs.Common.{◌≡◌, ℕ, ◌≤◌, List, take, refl, sym, ◌∙◌, ap}
 use Rattle.std.specs.Prelude.{Option, Some, None}
 use Rattle.std.specs.Option.{option_map}
-use Rattle.px_core.specs.Shown.{Shown, Touches, NoFile, Only, written}
+use Rattle.px_core.specs.Shown.{Shown, Touches, NoFile, Only, written, Tells, TellsPages}
 use Rattle.px_core.specs.Same.{Same, SameBelow, Apart}
-use Rattle.px_core.specs.Told.{Tells, TellsPages}
 use Rattle.px_core.proofs.Pages.{take_written}
 
 pub same_by_touches : (mine theirs : ℕ → Type 0) (a b : Shown) → Apart mine theirs → Touches theirs a b → Same mine a b

@@ -1,5 +1,5 @@
 -- The set bits of a u32.
-use Rattle.std.specs.Prelude.{◌≡◌, ℕ, ◌<◌, ◌≤◌, ◌/◌, ◌%◌, ◌^◌, nat_lt, ◌==◌, Bool, ◌&&◌}
+use Rattle.std.specs.Prelude.{◌≡◌, ℕ, ◌<◌, ◌≤◌, ◌/◌, ◌%◌, ◌^◌, nat_lt, ◌==◌, Bool, ◌&&◌, count_ones}
 use Rattle.std.specs.Int.{w32, trailing_zeros}
 
 -- bit i is set
@@ -19,3 +19,13 @@ lowest_bit number = trailing_zeros w32 number
 pub record IsLowestBit (number i : ℕ) : Type 0 where
   pub bit : IsBit number i
   pub least : (j : ℕ) → IsBit number j → i ≤ j
+
+-- bit i is set, and no higher one
+pub record IsHighestBit (number i : ℕ) : Type 0 where
+  pub bit : IsBit number i
+  pub greatest : (j : ℕ) → IsBit number j → j ≤ i
+
+-- bit i is set, and so many below it
+pub record IsRankedBit (number rank i : ℕ) : Type 0 where
+  pub bit : IsBit number i
+  pub below : count_ones (number % 2 ^ i) ≡ rank

@@ -5,7 +5,7 @@ pub mod Moved
 pub mod Null
 pub mod Partition
 pub mod Picks
+pub mod Seeded
 pub mod Shown
-pub mod Told
 pub mod Same
 pub mod Parts

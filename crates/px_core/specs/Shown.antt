@@ -1,5 +1,5 @@
 -- What a disk shows to a contract, and what its calls do to that.
-use Rattle.std.specs.Prelude.{◌≡◌, ◌⊎◌, ◌<◌, ◌≤◌, ℕ, ◌^◌, Bool, if◌then◌else◌, nat_lt, ◌==◌, List, [], ◌∷◌, ◌++◌, length, slice_get, slice_set, Option, Some, None, Result, IsOk}
+use Rattle.std.specs.Prelude.{◌≡◌, ◌⊎◌, ◌<◌, ◌≤◌, ℕ, ◌^◌, Bool, true, if◌then◌else◌, nat_lt, ◌==◌, List, [], ◌∷◌, ◌++◌, length, slice_get, slice_set, Option, Some, None, Result, IsOk}
 use Rattle.px_core.specs.Counts.{Rose, bumped_by}
 use Rattle.px_core.specs.declared.stop.Stop.{Stop}
 
@@ -108,3 +108,14 @@ pub record Unstarted (old new : Shown) : Type 0 where
   pub rose : Rose old.faults new.faults
   pub reads : new.reads ≡ old.reads
   pub writes : new.writes ≡ old.writes
+
+-- the disk tells that these are the pages of the file. Of a disk that does not tell, and of a file after a fault, this never holds
+pub record Tells (s : Shown) (file : ℕ) (pages : List (List ℕ)) : Type 0 where
+  pub on : s.tells ≡ true
+  pub is : s.files file ≡ Some pages
+
+-- the disk tells that the file has so many pages
+pub record TellsPages (s : Shown) (file pages : ℕ) : Type 0 where
+  pub told : List (List ℕ)
+  pub tells : Tells s file told
+  pub end : length told ≡ pages

@@ -18,7 +18,7 @@ pub use script::Script;
 pub use sink::{Sink, write_all};
 pub use source::Source;
 pub use stop::{Failed, Stop};
-pub use turns::{ListTurns, Turns};
+pub use turns::{HighTurns, ListTurns, SeedTurns, Turns};
 pub use vid::{Vid, part_of};
 
 #[cfg(test)]

@@ -3,7 +3,8 @@ ghost use Rattle.std.specs.Prelude.{◌≡◌, ◌≢◌, ◌<◌, ◌⊎◌, �
 ghost use Rattle.px_core.specs.Counts.{Rose};
 
 use crate::{
-    Disk, Failed, ListTurns, MemSink, MemSource, NullDisk, Sink, Source, Turns, part_of, write_all,
+    Disk, Failed, HighTurns, ListTurns, MemSink, MemSource, NullDisk, SeedTurns, Sink, Source,
+    Turns, part_of, write_all,
 };
 use std::alloc::Global;
 use std::test::Fail;
@@ -151,6 +152,54 @@ fn listed_turns_and_then_the_lowest(rt: HostRuntime) -> Result<(), Fail> {
         assert_eq!(rt; turn(&mut turns, ready), want, "{ready:b}");
     }
     Ok(())
+}
+
+#[test]
+fn the_highest_turn(rt: HostRuntime) {
+    let mut turns = HighTurns::new();
+    let table = [
+        (0b1, 0),
+        (0b1100, 3),
+        (0b1010_0000, 7),
+        (1 << 31, 31),
+        (u32::MAX, 31),
+        (u32::MAX >> 1, 30),
+    ];
+    for (ready, want) in table {
+        assert_eq!(rt; turn(&mut turns, ready), want, "{ready:b}");
+    }
+}
+
+// The numbers come from PCG's definition, worked out outside of Rattle.
+#[test]
+fn seeded_turns_begin_anew(rt: HostRuntime) {
+    let all = [
+        0xffff,
+        0xffff,
+        0xffff,
+        0xffff,
+        0b1010_0000,
+        1 << 31,
+        u32::MAX,
+        1 << 31 | 1,
+        0b1110,
+    ];
+    let table = [
+        (0, [9, 13, 4, 1, 7, 31, 26, 0, 1]),
+        (7, [10, 14, 0, 15, 7, 31, 23, 31, 2]),
+        (7, [10, 14, 0, 15, 7, 31, 23, 31, 2]),
+        (u64::MAX, [1, 6, 13, 11, 7, 31, 9, 31, 1]),
+        (0, [9, 13, 4, 1, 7, 31, 26, 0, 1]),
+    ];
+    let mut turns = SeedTurns::new();
+    assert_eq!(rt; turns.pick(0xffff), 9);
+    for (seed, wants) in table {
+        turns.start(seed);
+        for (ready, want) in all.into_iter().zip(wants) {
+            assert_eq!(rt; turns.pick(ready), want, "{ready:b} with seed {seed}");
+        }
+    }
+    assert_eq!(rt; turn(&mut turns, 0xffff), 10);
 }
 
 #[test]

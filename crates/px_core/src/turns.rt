@@ -1,8 +1,12 @@
 // Whose turn it is.
-ghost use Rattle.std.specs.Prelude.{◌≡◌, ◌<◌, IfOk, drop, option_to_list};
-ghost use Rattle.px_core.specs.Bits.{IsBit, IsLowestBit, lowest_bit};
+ghost use Rattle.std.specs.Prelude.{◌≡◌, ◌<◌, ◌%◌, IfOk, count_ones, drop, option_to_list};
+ghost use Rattle.rand_pcg.specs.Pcg.{pcg32};
+ghost use Rattle.px_core.specs.Bits.{IsBit, IsHighestBit, IsLowestBit, IsRankedBit, lowest_bit};
 ghost use Rattle.px_core.specs.Picks.{picked};
+ghost use Rattle.px_core.specs.Seeded.{seeded};
 
+use rand_core::utils::NextWord;
+use rand_pcg::Lcg64Xsh32;
 use std::alloc::{AllocError, Global};
 use std::marker::Model;
 
@@ -75,4 +79,90 @@ fn choose(listed: Option<u32>, ready: u32) -> u32
         Some(pick) if pick < 32 && ready >> pick & 1 == 1 => pick,
         _ => ready.trailing_zeros(),
     }
+}
+
+/// Turns that go to the highest set bit.
+#[derive(Drop)]
+pub struct HighTurns;
+
+impl HighTurns {
+    pub fn new() -> HighTurns {
+        HighTurns
+    }
+}
+
+impl Turns for HighTurns {
+    /// Changes nothing: a pick depends on `ready` alone.
+    fn start(&mut self, _seed: u64)
+        ensures { self.new ≡ self.old }
+    {}
+
+    fn pick(&mut self, ready: u32) -> u32
+        requires { 0 < ready }
+        ensures bit { IsBit ready result }
+        ensures highest { IsHighestBit ready result }
+    {
+        ready.ilog2()
+    }
+}
+
+/// Turns by the words of a PCG generator: a pick takes the next word, and answers the set bit whose rank is the word modulo the number of set bits.
+#[derive(Drop)]
+pub struct SeedTurns {
+    words: Lcg64Xsh32,
+}
+
+impl Model for SeedTurns {
+    ghost use Rattle.rand_pcg.specs.Lcg.{Lcg};
+
+    ghost Value = { Lcg };
+
+    ghost view = { λ t. t.words };
+}
+
+impl SeedTurns {
+    /// The turns of seed 0.
+    pub fn new() -> SeedTurns
+        ensures { result ≡ seeded 0 }
+    {
+        SeedTurns { words: words_of(0) }
+    }
+}
+
+impl Turns for SeedTurns {
+    /// The same seed gives the same words again.
+    fn start(&mut self, seed: u64)
+        ensures { self.new ≡ seeded seed }
+    {
+        self.words = words_of(seed);
+    }
+
+    fn pick(&mut self, ready: u32) -> u32
+        requires { 0 < ready }
+        ensures bit { IsBit ready result }
+        ensures ranked { IsRankedBit ready ((pcg32 self.old).0 % count_ones ready) result }
+        ensures after { self.new ≡ (pcg32 self.old).1 }
+    {
+        let word = self.words.next_word();
+        ranked_bit(ready, word % ready.count_ones())
+    }
+}
+
+// The generator of a seed.
+fn words_of(seed: u64) -> Lcg64Xsh32
+    ensures { result ≡ seeded seed }
+{
+    Lcg64Xsh32::new(seed, 1)
+}
+
+// The set bit of this rank: the lowest one, when that many have been cleared.
+fn ranked_bit(ready: u32, rank: u32) -> u32
+    requires { rank < count_ones ready }
+    ensures { IsRankedBit ready rank result }
+{
+    let mut left = ready;
+    'clear: for _ in 0..rank {
+        left &= left - 1;
+    }
+    left.trailing_zeros()
 }
