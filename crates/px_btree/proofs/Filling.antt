@@ -6,13 +6,13 @@ use Rattle.std.specs.Prelude.{Some, None, slice_get, IfSome, IsTrue, IsFalse}
 use Rattle.std.specs.Option.{option_map}
 use Rattle.std.specs.List.{insert}
 use Rattle.px_core.specs.Shown.{Shown}
-use Rattle.px_pages.specs.Entry.{Entry, bytes_of, entry_bytes, front_len}
+use Rattle.px_pages.specs.Entry.{Entry, bytes_of, entry_bytes}
 use Rattle.px_pages.specs.Page.{IsMade, IsWritten, IsPageLen, PageWriterView, kind_of, link_of, count_of, used_at, used_of, tuples_of, writer_of, entry_of}
 use Rattle.px_pages.specs.Place.{IsPlace, Turned, Overflows}
 use Rattle.px_pages.specs.declared.place.Place.{Place}
 use Rattle.px_pages.proofs.Writing.{made_tuples, made_kind, written_of, length-bytes_of, length-entry_bytes}
 use Rattle.px_pages.proofs.Editing.{made_used, made_count_of, bytes_join}
-use Rattle.px_meaning.specs.Graph.{Graph}
+use Rattle.px_meaning.specs.Graph.{Graph, front_len}
 use Rattle.px_cache.specs.View.{CacheView, Shows, Holds, ShownAfterLoad, written_frame}
 use Rattle.px_cache.proofs.Lists.{slice_get-set_same, slice_get-set_other, some_is}
 use Rattle.px_cache.proofs.Shows.{write_shows, shown_few}

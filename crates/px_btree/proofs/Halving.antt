@@ -6,7 +6,8 @@ use Rattle.std.proofs.lemmas.List.{append-nil, append_assoc, length-append, take
 use Rattle.std.proofs.lemmas.Option.{slice_get_within, get_or_from_slice_get}
 use Rattle.std.specs.Prelude.{Option, Some, None, slice_get, if◌then◌else◌, not, IsTrue, IsFalse, IfSome, IfNone}
 use Rattle.px_pages.specs.Entry.{Entry, entry_bytes, bytes_of, size_of}
-use Rattle.px_pages.specs.Page.{IsPageLen, IsMade, IsWritten, PageWriterView, tuples_of, used_of, room_of, kind_of, link_of, entry_of, writer_of}
+use Rattle.px_meaning.specs.Graph.{room_of}
+use Rattle.px_pages.specs.Page.{IsPageLen, IsMade, IsWritten, PageWriterView, tuples_of, used_of, kind_of, link_of, entry_of, writer_of}
 use Rattle.px_pages.specs.Place.{IsPlace, Turned}
 use Rattle.px_pages.specs.declared.reader.Tuple.{Tuple}
 use Rattle.px_pages.specs.Children.{AreChildren}

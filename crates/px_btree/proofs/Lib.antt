@@ -15,3 +15,9 @@ pub mod Rising
 pub mod Parting
 pub mod Stacking
 pub mod Growing
+pub mod ApartWalk
+pub mod ApartPage
+pub mod ApartPut
+pub mod OpenPage
+pub mod Opening
+pub mod Outer

@@ -27,16 +27,10 @@ use Rattle.px_btree.specs.declared.locate.Spot.{Spot}
 use Rattle.px_btree.proofs.Levels.{level_at, page_tuples}
 use Rattle.px_btree.proofs.Items.{leaves_level, tree_at, tree_kept}
 use Rattle.px_btree.proofs.Putting.{leaves_changed, gone_at, StartsBelow}
-use Rattle.px_btree.proofs.Places.{piece_keys}
+use Rattle.px_btree.proofs.Places.{past, stops, piece_keys}
 use Rattle.px_btree.proofs.Orders.{not_below, below, not_equal, equal}
 
 -- how many tuples are below a key
-past : (v : ℕ) (e : Entry) (es : List Entry) → e.key < v → prefix_len (is_below v) (e ∷ es) ≡ suc (prefix_len (is_below v) es)
-past v e es lt = rw (below e.key v lt) (omega arith)
-
-stops : (v : ℕ) (e : Entry) (es : List Entry) → v ≤ e.key → prefix_len (is_below v) (e ∷ es) ≡ 0
-stops v e es ge = rw (not_below e.key v ge) refl
-
 pub below_more : (k v : ℕ) (es : List Entry) → k ≤ v → prefix_len (is_below k) es ≤ prefix_len (is_below v) es
 below_more k v [] le = omega arith
 below_more k v (e ∷ es) le = elim (cases_lt e.key k) [
@@ -45,14 +39,14 @@ below_more k v (e ∷ es) le = elim (cases_lt e.key k) [
 ]
 
 -- of a leaf before another, a tuple that is not below a vid has a key below the least one of the other
-stops_below : (v low : ℕ) (es : List Entry) (y : Piece) (ys : List Piece) → AreKeys low es (y ∷ ys) → prefix_len (is_below v) es < length es → v < y.low
+pub stops_below : (v low : ℕ) (es : List Entry) (y : Piece) (ys : List Piece) → AreKeys low es (y ∷ ys) → prefix_len (is_below v) es < length es → v < y.low
 stops_below v low [] y ys keys more = absurd (omega (arith, more))
 stops_below v low (e ∷ es) y ys keys more = elim (cases_lt e.key v) [
   | inl lt ↦ stops_below v (e.key + 1) es y ys keys.2 (omega (arith, more, past v e es lt))
   | inr ge ↦ omega (arith, ge, keys.1)
 ]
 
-made_next : (len : ℕ) (ps : List (List ℕ)) (x : Piece) (xs : List Piece) (b : List ℕ) → HoldsPage len 3 (link_to xs) ps x.page x.es → slice_get ps x.page ≡ Some b → link_of b ≡ link_to xs
+pub made_next : (len : ℕ) (ps : List (List ℕ)) (x : Piece) (xs : List Piece) (b : List ℕ) → HoldsPage len 3 (link_to xs) ps x.page x.es → slice_get ps x.page ≡ Some b → link_of b ≡ link_to xs
 made_next len ps x xs b is at =
     let mine : is.page ≡ b = some_is (sym is.at ∙ at) in
     ap link_of (sym mine) ∙ made_link (writer_of len x.es) 3 (link_to xs) x.es is.page is.made
@@ -79,7 +73,7 @@ same_leaf k v len ps (x ∷ y ∷ ys) b is le at ends = elim (cases_lt k y.low) 
 ]
 
 -- the leaf in which a vid lies is a page of the file
-leaf_page : (v n len : ℕ) (ps : List (List ℕ)) (xs : List Piece) → FirstIs n xs → IsLevel len true ps xs → (link : ℕ) × HoldsPage len 3 link ps (piece_at v xs).page (piece_at v xs).es
+pub leaf_page : (v n len : ℕ) (ps : List (List ℕ)) (xs : List Piece) → FirstIs n xs → IsLevel len true ps xs → (link : ℕ) × HoldsPage len 3 link ps (piece_at v xs).page (piece_at v xs).es
 leaf_page v n len ps [] first is = absurd first
 leaf_page v n len ps (x ∷ xs) first is = level_at v len true ps x xs is
 
@@ -246,7 +240,7 @@ pub record KeepsFront (v : ℕ) (f : List Entry → List Entry) (es : List Entry
   pub count : prefix_len (is_below v) (f es) ≡ prefix_len (is_below v) es
   pub front : take (prefix_len (is_below v) es) (f es) ≡ take (prefix_len (is_below v) es) es
 
-behind : (v : ℕ) (f : List Entry → List Entry) (e : Entry) (es : List Entry) → e.key < v → f (e ∷ es) ≡ e ∷ f es → KeepsFront v f es → KeepsFront v f (e ∷ es)
+pub behind : (v : ℕ) (f : List Entry → List Entry) (e : Entry) (es : List Entry) → e.key < v → f (e ∷ es) ≡ e ∷ f es → KeepsFront v f es → KeepsFront v f (e ∷ es)
 behind v f e es lt is rest =
     let n = past v e es lt in
     record {
@@ -254,7 +248,7 @@ behind v f e es lt is rest =
       front = ap (λ (k : ℕ). take k (f (e ∷ es))) n ∙ ap (take (suc (prefix_len (is_below v) es))) is ∙ ap (λ (l : List Entry). e ∷ l) rest.front ∙ ap (λ (k : ℕ). take k (e ∷ es)) (sym n);
     }
 
-at_front : (v : ℕ) (f : List Entry → List Entry) (es : List Entry) → prefix_len (is_below v) es ≡ 0 → prefix_len (is_below v) (f es) ≡ 0 → KeepsFront v f es
+pub at_front : (v : ℕ) (f : List Entry → List Entry) (es : List Entry) → prefix_len (is_below v) es ≡ 0 → prefix_len (is_below v) (f es) ≡ 0 → KeepsFront v f es
 at_front v f es none still = record { count = still ∙ sym none; front = ap (λ (k : ℕ). take k (f es)) none ∙ ap (λ (k : ℕ). take k es) (sym none) }
 
 pub front_placed : (e : Entry) (es : List Entry) → KeepsFront e.key (placed e) es
@@ -295,7 +289,7 @@ front_removed v len ps levels is =
     record { count = ap (prefix_len (is_below v)) same ∙ keeps.count; front = ap (take (prefix_len (is_below v) es)) same ∙ keeps.front }
 
 -- the leaf in which the vid lies, after its tuples changed
-changed_head : (v : ℕ) (f : List Entry → List Entry) (y : Piece) (ys : List Piece) → (z : Piece) × (zs : List Piece) × (changed v f (y ∷ ys) ≡ z ∷ zs) × (z.low ≡ y.low)
+pub changed_head : (v : ℕ) (f : List Entry → List Entry) (y : Piece) (ys : List Piece) → (z : Piece) × (zs : List Piece) × (changed v f (y ∷ ys) ≡ z ∷ zs) × (z.low ≡ y.low)
 changed_head v f y [] = (with_tuples f y, [], refl, refl)
 changed_head v f y (x ∷ xs) = elim (cases_lt v x.low) [
   | inl lt ↦ (with_tuples f y, x ∷ xs, rw (below v x.low lt) refl, refl)

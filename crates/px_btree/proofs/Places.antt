@@ -22,10 +22,10 @@ use Rattle.px_btree.proofs.Items.{none_below}
 use Rattle.px_btree.proofs.Orders.{not_below, below, not_equal, equal}
 
 -- how many tuples are below a key
-past : (v : ℕ) (e : Entry) (es : List Entry) → e.key < v → prefix_len (is_below v) (e ∷ es) ≡ suc (prefix_len (is_below v) es)
+pub past : (v : ℕ) (e : Entry) (es : List Entry) → e.key < v → prefix_len (is_below v) (e ∷ es) ≡ suc (prefix_len (is_below v) es)
 past v e es lt = rw (below e.key v lt) (omega arith)
 
-stops : (v : ℕ) (e : Entry) (es : List Entry) → v ≤ e.key → prefix_len (is_below v) (e ∷ es) ≡ 0
+pub stops : (v : ℕ) (e : Entry) (es : List Entry) → v ≤ e.key → prefix_len (is_below v) (e ∷ es) ≡ 0
 stops v e es ge = rw (not_below e.key v ge) refl
 
 -- the tuple of a key is put in its place, or between others

@@ -4,7 +4,8 @@ use Rattle.std.proofs.lemmas.Bool.{cases_lt, cases_eq}
 use Rattle.std.proofs.lemmas.List.{length-append, length-set}
 use Rattle.std.specs.Prelude.{Option, Some, None, slice_get}
 use Rattle.px_pages.specs.Entry.{Entry, size_of}
-use Rattle.px_pages.specs.Page.{IsMade, writer_of, room_of}
+use Rattle.px_meaning.specs.Graph.{room_of}
+use Rattle.px_pages.specs.Page.{IsMade, writer_of}
 use Rattle.px_pages.specs.Place.{Turned}
 use Rattle.px_pages.specs.Children.{AreChildren}
 use Rattle.px_pages.specs.declared.inner.Child.{Child}

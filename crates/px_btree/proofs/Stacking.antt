@@ -5,7 +5,8 @@ use Rattle.std.proofs.lemmas.List.{append-nil, length-append, length-set, length
 use Rattle.std.specs.Prelude.{Option, Some, None, slice_get}
 use Rattle.px_core.specs.Shown.{Shown}
 use Rattle.px_pages.specs.Entry.{Entry, size_of}
-use Rattle.px_pages.specs.Page.{IsPageLen, room_of}
+use Rattle.px_meaning.specs.Graph.{room_of}
+use Rattle.px_pages.specs.Page.{IsPageLen}
 use Rattle.px_pages.specs.Children.{AreChildren}
 use Rattle.px_pages.specs.declared.inner.Child.{Child}
 use Rattle.px_cache.specs.View.{CacheView, Shows, SameCache}

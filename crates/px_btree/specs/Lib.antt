@@ -8,3 +8,5 @@ pub mod Fill
 pub mod Split
 pub mod Rise
 pub mod Staying
+pub mod Apart
+pub mod Open

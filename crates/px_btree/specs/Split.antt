@@ -2,7 +2,8 @@
 use Rattle.std.specs.Prelude.{◌≡◌, ◌<◌, ◌≤◌, ◌+◌, ℕ, Bool, if◌then◌else◌, nat_lt, List, [], ◌∷◌, ◌++◌, length, take, drop, slice_get, slice_set, Option, Some, None}
 use Rattle.px_core.specs.Shown.{Shown}
 use Rattle.px_pages.specs.Entry.{Entry, size_of}
-use Rattle.px_pages.specs.Page.{IsMade, tuples_of, used_of, room_of, entry_of, writer_of}
+use Rattle.px_meaning.specs.Graph.{room_of}
+use Rattle.px_pages.specs.Page.{IsMade, tuples_of, used_of, entry_of, writer_of}
 use Rattle.px_pages.specs.Place.{IsPlace, Turned}
 use Rattle.px_pages.specs.Children.{AreChildren}
 use Rattle.px_pages.specs.declared.inner.Child.{Child}

@@ -1,6 +1,6 @@
 -- What is known of a tree while others use the desk, and that its vertices are a map: the laws of the trait.
-use Rattle.std.specs.Prelude.{◌≡◌, ◌<◌, ◌+◌, ◌*◌, ℕ, true, List, [], ◌∷◌, ◌++◌}
-use Rattle.std.proofs.Common.{sym, subst}
+use Rattle.std.specs.Prelude.{◌≡◌, ◌<◌, ◌+◌, ◌*◌, ℕ, true, List, [], ◌∷◌, ◌++◌, Option, Some, None}
+use Rattle.std.proofs.Common.{refl, sym, subst}
 use Rattle.std.proofs.Math.Nat.{lt_of_lt_of_le, lt_trans}
 use Rattle.std.proofs.Math.Numerals.{lt-add-one}
 use Rattle.px_core.specs.Shown.{Shown}
@@ -13,6 +13,8 @@ use Rattle.px_store.specs.Desks.{OwnKept, IsNotOwner}
 use Rattle.px_store.proofs.Apart.{own_first}
 use Rattle.px_btree.specs.Tree.{Piece, TreeView, IsTree, IsHeld, AreKeys, AreItems, BelowNext, IsLevel, IsStack, items, tuples, leaves_of}
 use Rattle.px_btree.specs.Scan.{IsScan, ToCome}
+use Rattle.px_btree.specs.Open.{OpenTreeView, IsStored, IsStoredScan, OpenFits, shut_in}
+use Rattle.px_btree.specs.declared.open_leaf.OpenLeaf.{OpenLeaf}
 
 pub leaves_level : (len : ℕ) (ps : List (List ℕ)) (levels : List (List Piece)) → IsStack len ps levels → IsLevel len true ps (leaves_of levels)
 leaves_level len ps [] is = absurd is
@@ -37,15 +39,15 @@ tree_kept t d d' s s' levels is len shows = record {
   mark = is.mark;
 }
 
-pub tree_stays : (t : TreeView) (d d' : Desk) (s s' : Shown) (l : Graph) → OwnKept t.part d s d' s' → s'.page_len ≡ s.page_len → IsNotOwner t.part d.owner → IsNotOwner t.part d'.owner → IsHeld t d s l → IsHeld t d' s' l
+tree_stays : (t : TreeView) (d d' : Desk) (s s' : Shown) (l : Graph) → OwnKept t.part d s d' s' → s'.page_len ≡ s.page_len → IsNotOwner t.part d.owner → IsNotOwner t.part d'.owner → IsHeld t d s l → IsHeld t d' s' l
 tree_stays t d d' s s' l kept len other other' held = record {
   levels = held.levels;
   tree = tree_kept t d d' s s' held.levels held.tree len (kept (8 * t.part) held.tree.ps (own_first t.part) held.tree.shows);
   is = held.is;
 }
 
-pub place_stays : (t : TreeView) (d d' : Desk) (s s' : Shown) (a b : Graph) → OwnKept t.part d s d' s' → s'.page_len ≡ s.page_len → IsNotOwner t.part d.owner → IsNotOwner t.part d'.owner → IsScan t d s a b → IsScan t d' s' a b
-place_stays t d d' s s' a b kept len other other' scan = record {
+scan_stays : (t : TreeView) (d d' : Desk) (s s' : Shown) (a b : Graph) → OwnKept t.part d s d' s' → s'.page_len ≡ s.page_len → IsNotOwner t.part d.owner → IsNotOwner t.part d'.owner → IsScan t d s a b → IsScan t d' s' a b
+scan_stays t d d' s s' a b kept len other other' scan = record {
   levels = scan.levels;
   tree = tree_kept t d d' s s' scan.levels scan.tree len (kept (8 * t.part) scan.tree.ps (own_first t.part) scan.tree.shows);
   front = scan.front;
@@ -56,8 +58,8 @@ place_stays t d d' s s' a b kept len other other' scan = record {
   rest = subst (λ (n : ℕ). ToCome n t.here t.at scan.tree.ps scan.back b) (sym len) scan.rest;
 }
 
-pub place_holds : (t : TreeView) (d : Desk) (s : Shown) (a b : Graph) → IsScan t d s a b → IsHeld t d s (a ++ b)
-place_holds t d s a b scan = record { levels = scan.levels; tree = scan.tree; is = scan.whole }
+scan_holds : (t : TreeView) (d : Desk) (s : Shown) (a b : Graph) → IsScan t d s a b → IsHeld t d s (a ++ b)
+scan_holds t d s a b scan = record { levels = scan.levels; tree = scan.tree; is = scan.whole }
 
 -- all keys are above the bound
 above_tuples : (b low : ℕ) (es fs : List Entry) (xs : List Piece) → b < low → AreKeys low es xs → AllAbove b (vids (items fs)) → AllAbove b (vids (items (es ++ fs)))
@@ -83,5 +85,33 @@ ascending_level : (len : ℕ) (ps : List (List ℕ)) (xs : List Piece) → IsLev
 ascending_level len ps [] level = tt
 ascending_level len ps (x ∷ xs) level = ascending_page x.low len ps x.es xs level.1 level.4 (ascending_level len ps xs level.4)
 
-pub tree_map : (t : TreeView) (d : Desk) (s : Shown) (l : Graph) → IsHeld t d s l → IsMap l
+tree_map : (t : TreeView) (d : Desk) (s : Shown) (l : Graph) → IsHeld t d s l → IsMap l
 tree_map t d s l held = subst IsMap (sym held.is) (ascending_level s.page_len held.tree.ps (leaves_of held.levels) (leaves_level s.page_len held.tree.ps held.levels held.tree.stack))
+
+-- a tree whose leaf is open owns the desk
+not_open : (t : TreeView) (o : OpenLeaf) (d : Desk) → OpenFits (Some o) t d → IsNotOwner t.part d.owner → ⊥
+not_open t o d fits not = subst (IsNotOwner t.part) fits.0 not refl
+
+stored_with : (t : TreeView) (o : Option OpenLeaf) (d d' : Desk) (s s' : Shown) (l : Graph) → OwnKept t.part d s d' s' → s'.page_len ≡ s.page_len → IsNotOwner t.part d.owner → IsNotOwner t.part d'.owner
+    → IsHeld t (shut_in o d) s l → OpenFits o t d → IsStored (record { tree = t; leaf = o }) d' s' l
+stored_with t None d d' s s' l kept len other other' held fits = record { held = tree_stays t d d' s s' l kept len other other' held; fits = tt }
+stored_with t (Some o) d d' s s' l kept len other other' held fits = absurd (not_open t o d fits other)
+
+pub stored_stays : (t : OpenTreeView) (d d' : Desk) (s s' : Shown) (l : Graph) → OwnKept t.tree.part d s d' s' → s'.page_len ≡ s.page_len → IsNotOwner t.tree.part d.owner → IsNotOwner t.tree.part d'.owner
+    → IsStored t d s l → IsStored t d' s' l
+stored_stays t d d' s s' l kept len other other' is = stored_with t.tree t.leaf d d' s s' l kept len other other' is.held is.fits
+
+place_with : (t : TreeView) (o : Option OpenLeaf) (d d' : Desk) (s s' : Shown) (a b : Graph) → OwnKept t.part d s d' s' → s'.page_len ≡ s.page_len → IsNotOwner t.part d.owner → IsNotOwner t.part d'.owner
+    → IsScan t (shut_in o d) s a b → OpenFits o t d → IsStoredScan (record { tree = t; leaf = o }) d' s' a b
+place_with t None d d' s s' a b kept len other other' scan fits = record { scan = scan_stays t d d' s s' a b kept len other other' scan; fits = tt }
+place_with t (Some o) d d' s s' a b kept len other other' scan fits = absurd (not_open t o d fits other)
+
+pub place_stays : (t : OpenTreeView) (d d' : Desk) (s s' : Shown) (a b : Graph) → OwnKept t.tree.part d s d' s' → s'.page_len ≡ s.page_len → IsNotOwner t.tree.part d.owner → IsNotOwner t.tree.part d'.owner
+    → IsStoredScan t d s a b → IsStoredScan t d' s' a b
+place_stays t d d' s s' a b kept len other other' is = place_with t.tree t.leaf d d' s s' a b kept len other other' is.scan is.fits
+
+pub place_holds : (t : OpenTreeView) (d : Desk) (s : Shown) (a b : Graph) → IsStoredScan t d s a b → IsStored t d s (a ++ b)
+place_holds t d s a b is = record { held = scan_holds t.tree (shut_in t.leaf d) s a b is.scan; fits = is.fits }
+
+pub stored_map : (t : OpenTreeView) (d : Desk) (s : Shown) (l : Graph) → IsStored t d s l → IsMap l
+stored_map t d s l is = tree_map t.tree (shut_in t.leaf d) s l is.held

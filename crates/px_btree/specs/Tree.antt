@@ -3,9 +3,9 @@ use Rattle.std.specs.Prelude.{◌≡◌, ◌<◌, ◌≤◌, ◌+◌, ◌*◌, �
 use Rattle.std.specs.List.{prefix_len}
 use Rattle.px_core.specs.Shown.{Shown}
 use Rattle.px_pages.specs.Entry.{Entry}
-use Rattle.px_pages.specs.Page.{PageReaderView, IsMade, IsPageLen, room_of, used_of, writer_of}
+use Rattle.px_pages.specs.Page.{PageReaderView, IsMade, IsPageLen, used_of, writer_of}
 use Rattle.px_pages.specs.Place.{is_below}
-use Rattle.px_meaning.specs.Graph.{Vertex, Graph}
+use Rattle.px_meaning.specs.Graph.{Vertex, Graph, room_of}
 use Rattle.px_record.specs.Body.{is_vertex_body, vertex_of}
 use Rattle.px_cache.specs.View.{Shows}
 use Rattle.px_store.specs.declared.shared.Desk.{Desk}

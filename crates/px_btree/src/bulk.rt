@@ -2,8 +2,8 @@
 ghost use Rattle.std.specs.Prelude.{◌≡◌, ◌≤◌, ◌<◌, ◌+◌, ◌-◌, ◌*◌, ◌/◌, ◌^◌, ◌++◌, [], ◌∷◌, ℕ, true, length, min, OnOk, IfOk, IfErr, IsTrue, IsFalse};
 ghost use Rattle.px_core.specs.Shown.{Clean, Broke};
 ghost use Rattle.px_pages.specs.Entry.{Entry};
-ghost use Rattle.px_pages.specs.Page.{IsPageLen, room_of};
-ghost use Rattle.px_meaning.specs.Graph.{Graph};
+ghost use Rattle.px_pages.specs.Page.{IsPageLen};
+ghost use Rattle.px_meaning.specs.Graph.{Graph, room_of};
 ghost use Rattle.px_cache.specs.View.{AnyFile, NoPins, Holds, OthersShown, SameCache};
 ghost use Rattle.px_store.specs.Desks.{IsReady, IsDone, SameDesk, AllBelow};
 ghost use Rattle.px_btree.specs.Tree.{IsHeld, IsItem};
@@ -11,7 +11,7 @@ ghost use Rattle.px_btree.specs.Fill.{IsFilling, IsOpen};
 
 use crate::filled::{append_in, begin_page, is_full};
 use crate::inner::add_level;
-use crate::tree::BTree;
+use crate::tree::ClosedTree;
 use px_cache::Cache;
 use px_core::{Disk, Stop};
 use px_pages::{kinds, set_link, tags};
@@ -21,7 +21,7 @@ use px_store::Desk;
 // No file has so many pages.
 const MANY: u64 = 1 << 41;
 
-impl BTree {
+impl ClosedTree {
     // The page of its last leaf.
     fn last_leaf(&self) -> u64
         ensures { result ≡ self.now.leaves - 1 }
@@ -93,7 +93,7 @@ impl BTree {
     }
 
     /// Takes a vertex above all before.
-    pub fn bulk_put<D: Disk>(
+    pub(crate) fn bulk_put<D: Disk>(
         &mut self,
         disk: &mut D,
         desk: &mut Desk,
@@ -138,7 +138,7 @@ impl BTree {
     }
 
     /// Ends the filling: makes the levels over the leaves.
-    pub fn bulk_end<D: Disk>(&mut self, disk: &mut D, desk: &mut Desk) -> Result<(), Stop>
+    pub(crate) fn bulk_end<D: Disk>(&mut self, disk: &mut D, desk: &mut Desk) -> Result<(), Stop>
         requires { IsReady true self.old.part desk.old (D.shown disk.old) }
         ensures holds { OnOk result ((l : Graph) → IsFilling self.old desk.old.cache (D.shown disk.old) l → IsHeld self.new desk.new (D.shown disk.new) l) }
         ensures leaves { self.new.leaves ≡ self.old.leaves }

@@ -1,7 +1,7 @@
 // What no clause says: trees over a disk in memory that were filled in bulk, called as any store.
 ghost use Rattle.std.specs.Prelude.{◌≡◌, ℕ, length, true, OnOk, IfOk};
 ghost use Rattle.px_core.specs.Shown.{Shown};
-ghost use Rattle.px_pages.specs.Page.{room_of};
+ghost use Rattle.px_meaning.specs.Graph.{room_of};
 ghost use Rattle.px_store.specs.Desks.{IsReady};
 
 use crate::BTree;

@@ -1,21 +1,21 @@
 // The cursor goes from leaf to leaf.
 ghost use Rattle.std.specs.Prelude.{◌≡◌, ◌≤◌, ◌<◌, ◌+◌, ◌-◌, ◌*◌, ◌++◌, [], ◌∷◌, true, length, None, OnOk, IfOk, OnErr, IfErr, IfSome, IfNone, OnSome, IsTrue, IsFalse};
 ghost use Rattle.px_core.specs.Shown.{Shown, Broke};
-ghost use Rattle.px_pages.specs.Page.{IsPageLen, room_of, entry_of, link_of};
-ghost use Rattle.px_meaning.specs.Graph.{Graph};
+ghost use Rattle.px_pages.specs.Page.{IsPageLen, entry_of, link_of};
+ghost use Rattle.px_meaning.specs.Graph.{Graph, room_of};
 ghost use Rattle.px_cache.specs.View.{AnyFile};
 ghost use Rattle.px_store.specs.Desks.{IsReady, IsDone, GivesNext, SameDesk, SameRoom};
 ghost use Rattle.px_btree.specs.Tree.{IsHeld};
 ghost use Rattle.px_btree.specs.Scan.{IsScan, Looked, left_here, unread, left, Given};
 
 use crate::leaf::load_at;
-use crate::tree::BTree;
+use crate::tree::ClosedTree;
 use px_core::{Disk, Stop};
 use px_pages::{PageReader, Tuple, link};
 use px_record::VertexBuf;
 use px_store::Desk;
 
-impl BTree {
+impl ClosedTree {
     ghost use Rattle.px_store.specs.declared.shared.Desk.{Desk};
 
     // The next tuple of the cursor's leaf.
@@ -105,7 +105,7 @@ impl BTree {
     }
 
     /// Sets the cursor before the first vertex. It reads nothing.
-    pub fn rewind(&mut self)
+    pub(crate) fn rewind(&mut self)
         ensures scans { (d : Desk) (s : Shown) (l : Graph) → IsHeld self.old d s l → IsScan self.new d s [] l }
         ensures part { self.new.part ≡ self.old.part }
         ensures leaves { self.new.leaves ≡ self.old.leaves }
@@ -117,7 +117,7 @@ impl BTree {
     }
 
     /// Gives the next vertex, or answers false at the end.
-    pub fn next<D: Disk>(
+    pub(crate) fn next<D: Disk>(
         &mut self,
         disk: &mut D,
         desk: &mut Desk,

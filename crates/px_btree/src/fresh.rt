@@ -10,7 +10,7 @@ ghost use Rattle.px_btree.specs.Tree.{IsHeld, started_in};
 ghost use Rattle.px_btree.specs.Fresh.{WithPage};
 ghost use Rattle.px_btree.specs.Fill.{IsFilling};
 
-use crate::tree::BTree;
+use crate::tree::ClosedTree;
 use px_cache::Cache;
 use px_core::{Disk, Failed, Stop};
 use px_pages::{PageWriter, kinds};
@@ -58,9 +58,9 @@ fn add_page<D: Disk>(
     Ok(i)
 }
 
-impl BTree {
+impl ClosedTree {
     /// Makes it empty: its file has one leaf without vertices.
-    pub fn start<D: Disk>(&mut self, disk: &mut D, desk: &mut Desk) -> Result<(), Stop>
+    pub(crate) fn start<D: Disk>(&mut self, disk: &mut D, desk: &mut Desk) -> Result<(), Stop>
         requires { IsReady true self.old.part desk.old (D.shown disk.old) }
         ensures holds { OnOk result (OnTrue (D.shown disk.new).tells (IsHeld self.new desk.new (D.shown disk.new) [])) }
         ensures fills { OnOk result (OnTrue (D.shown disk.new).tells (IsFilling self.new desk.new.cache (D.shown disk.new) [])) }

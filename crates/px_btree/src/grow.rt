@@ -1,8 +1,8 @@
 // A vertex is put wherever there is room for it, and a tree whose root was cut grows by a level.
 ghost use Rattle.std.specs.Prelude.{◌≡◌, ◌≤◌, ◌<◌, ◌+◌, ◌*◌, ◌^◌, [], ◌∷◌, ℕ, List, true, length, OnOk, IfOk, IfErr};
 ghost use Rattle.px_core.specs.Shown.{Clean, Broke};
-ghost use Rattle.px_pages.specs.Page.{IsPageLen, IsMade, room_of, writer_of};
-ghost use Rattle.px_meaning.specs.Graph.{Graph, put as put_item};
+ghost use Rattle.px_pages.specs.Page.{IsPageLen, IsMade, writer_of};
+ghost use Rattle.px_meaning.specs.Graph.{Graph, put as put_item, room_of};
 ghost use Rattle.px_cache.specs.View.{AnyFile, NoPins, OthersShown, SameCache, Shows};
 ghost use Rattle.px_store.specs.Desks.{IsReady, IsDone, SameDesk};
 ghost use Rattle.px_btree.specs.Search.{child};
@@ -10,7 +10,7 @@ ghost use Rattle.px_btree.specs.Tree.{IsHeld};
 ghost use Rattle.px_btree.specs.Rise.{WithRoot, Owes};
 
 use crate::insert::put_below;
-use crate::tree::BTree;
+use crate::tree::ClosedTree;
 use byteorder::{BigEndian, ByteOrder};
 use px_cache::Cache;
 use px_core::{Disk, Stop};
@@ -58,7 +58,7 @@ fn add_root<D: Disk>(
     Ok(())
 }
 
-impl BTree {
+impl ClosedTree {
     /// Puts a vertex from the root on, and cuts pages that have no room.
     pub(crate) fn put_anew<D: Disk>(
         &mut self,

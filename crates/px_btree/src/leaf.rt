@@ -1,8 +1,8 @@
 // A vertex is taken out of a leaf. The page may hold any bytes.
 ghost use Rattle.std.specs.Prelude.{◌≡◌, ◌≤◌, ◌+◌, ℕ, List, length, is_some, IsFalse, true};
-ghost use Rattle.px_meaning.specs.Graph.{fresh, lookup, vertex_or_fresh};
+ghost use Rattle.px_meaning.specs.Graph.{fresh, lookup, vertex_or_fresh, room_of};
 ghost use Rattle.px_pages.specs.Entry.{Entry};
-ghost use Rattle.px_pages.specs.Page.{IsPageLen, tuples_of, room_of, entry_of};
+ghost use Rattle.px_pages.specs.Page.{IsPageLen, tuples_of, entry_of};
 ghost use Rattle.px_record.specs.Body.{vertex_of};
 ghost use Rattle.px_btree.specs.Search.{IsPlaceOf};
 ghost use Rattle.px_btree.specs.Tree.{Piece, AreKeys, AreItems, IsItem, items};

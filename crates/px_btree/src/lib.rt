@@ -1,6 +1,8 @@
 //! A B-tree of vertices on the pages of one partition.
 #![tactic(auto)]
 
+mod apart;
+mod btree;
 mod bulk;
 mod cursor;
 mod descent;
@@ -11,6 +13,7 @@ mod inner;
 mod insert;
 mod leaf;
 mod locate;
+mod open_leaf;
 mod page;
 mod reading;
 mod split;
@@ -18,9 +21,13 @@ mod store;
 mod tree;
 mod writing;
 
-pub use tree::BTree;
+pub use btree::BTree;
 
 #[cfg(test)]
 mod bulk_tests;
 #[cfg(test)]
 mod tests;
+#[cfg(test)]
+mod tests_apart;
+#[cfg(test)]
+mod tests_growing;

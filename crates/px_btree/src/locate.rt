@@ -8,7 +8,7 @@ ghost use Rattle.px_btree.specs.Tree.{Piece, IsStack, FirstIs, MarkFits, IsHeld,
 ghost use Rattle.px_btree.specs.Find.{IsSpot, Finds, mark_at};
 
 use crate::descent::descend;
-use crate::tree::{BTree, Mark};
+use crate::tree::{ClosedTree, Mark};
 use px_cache::Cache;
 use px_core::{Disk, Stop, Vid};
 use px_pages::{Place, find_from, link};
@@ -63,7 +63,7 @@ fn find_near<D: Disk>(
     Ok(None)
 }
 
-impl BTree {
+impl ClosedTree {
     ghost use Rattle.px_store.specs.declared.shared.Desk.{Desk};
 
     // The place of the last call, where a vid may be found from it within the reads of a call.

@@ -1,20 +1,19 @@
 // The calls of the tree that read.
 ghost use Rattle.std.specs.Prelude.{◌≡◌, ◌≤◌, ◌<◌, ◌+◌, ◌*◌, ◌++◌, [], true, is_some, OnOk, IfOk, IfErr, IsFalse};
 ghost use Rattle.px_core.specs.Shown.{Broke};
-ghost use Rattle.px_pages.specs.Page.{room_of};
-ghost use Rattle.px_meaning.specs.Graph.{Graph, fresh, lookup, vertex_or_fresh};
+ghost use Rattle.px_meaning.specs.Graph.{Graph, fresh, lookup, vertex_or_fresh, room_of};
 ghost use Rattle.px_cache.specs.View.{AnyFile};
 ghost use Rattle.px_store.specs.Desks.{IsReady, IsDone, SameDesk, SameRoom};
 ghost use Rattle.px_btree.specs.Tree.{IsHeld};
 ghost use Rattle.px_btree.specs.Scan.{IsScan};
 
 use crate::leaf::take_into;
-use crate::tree::BTree;
+use crate::tree::ClosedTree;
 use px_core::{Disk, Stop, Vid};
 use px_record::VertexBuf;
 use px_store::Desk;
 
-impl BTree {
+impl ClosedTree {
     // Its file on the graph disk.
     pub(crate) fn file(&self) -> u32
         ensures file { result ≡ 8 * self.now.part }
@@ -25,7 +24,7 @@ impl BTree {
     }
 
     /// Gives the vertex of a vid, or the fresh one where it is not there.
-    pub fn get<D: Disk>(
+    pub(crate) fn get<D: Disk>(
         &mut self,
         disk: &mut D,
         desk: &mut Desk,

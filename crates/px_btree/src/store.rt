@@ -2,42 +2,43 @@
 ghost use Rattle.std.specs.Prelude.{true};
 ghost use Rattle.px_store.specs.declared.shared.Desk.{Desk};
 
-use crate::tree::BTree;
+use crate::btree::BTree;
 use px_core::{Disk, Stop, Vid};
 use px_record::VertexBuf;
 use px_store::{Desk, Store};
 
 impl Store for BTree {
-    ghost use Rattle.std.specs.Prelude.{true};
-    ghost use Rattle.px_btree.specs.Tree.{IsHeld};
-    ghost use Rattle.px_btree.specs.Scan.{IsScan, unread, left};
+    ghost use Rattle.std.specs.Prelude.{◌≡◌, true, None};
+    ghost use Rattle.px_btree.specs.Open.{IsStored, IsStoredScan};
+    ghost use Rattle.px_btree.specs.Scan.{unread, left};
     ghost use Rattle.px_btree.specs.Fill.{IsFilling};
-    ghost use Rattle.px_btree.specs.Staying.{tree_stays, place_stays, place_holds, tree_map};
+    ghost use Rattle.px_btree.specs.Staying.{stored_stays, place_stays, place_holds, stored_map};
 
-    ghost part = { λ t. t.part };
+    ghost part = { λ t. t.tree.part };
 
     ghost counted = { true };
 
-    ghost leaves = { λ t. t.leaves };
+    ghost leaves = { λ t. t.tree.leaves };
 
-    ghost saved = { λ t. t.togo };
+    ghost saved = { λ t. t.tree.togo };
 
-    ghost unread = { unread };
+    ghost unread = { λ t d. unread t.tree d };
 
-    ghost left = { left };
+    ghost left = { λ t. left t.tree };
 
-    ghost holds = { IsHeld };
+    ghost holds = { IsStored };
 
-    ghost scans = { IsScan };
+    ghost scans = { IsStoredScan };
 
-    ghost fills = { λ t d s l. IsFilling t d.cache s l };
+    ghost fills = { λ t d s l. IsFilling t.tree d.cache s l × (t.leaf ≡ None) };
 
     fn open(partition: u32) -> BTree {
         BTree::open(partition)
     }
 
     fn start<D: Disk>(&mut self, disk: &mut D, desk: &mut Desk) -> Result<(), Stop> {
-        BTree::start(self, disk, desk)
+        self.close(desk);
+        self.tree.start(disk, desk)
     }
 
     fn bulk_put<D: Disk>(
@@ -46,11 +47,13 @@ impl Store for BTree {
         desk: &mut Desk,
         v: &VertexBuf,
     ) -> Result<(), Stop> {
-        BTree::bulk_put(self, disk, desk, v)
+        self.close(desk);
+        self.tree.bulk_put(disk, desk, v)
     }
 
     fn bulk_end<D: Disk>(&mut self, disk: &mut D, desk: &mut Desk) -> Result<(), Stop> {
-        BTree::bulk_end(self, disk, desk)
+        self.close(desk);
+        self.tree.bulk_end(disk, desk)
     }
 
     fn get<D: Disk>(
@@ -60,24 +63,35 @@ impl Store for BTree {
         vid: Vid,
         into: &mut VertexBuf,
     ) -> Result<bool, Stop> {
-        BTree::get(self, disk, desk, vid, into)
+        self.close(desk);
+        self.tree.get(disk, desk, vid, into)
     }
 
     fn put<D: Disk>(&mut self, disk: &mut D, desk: &mut Desk, v: &VertexBuf) -> Result<(), Stop> {
-        BTree::put(self, disk, desk, v)
+        if self.put_open(desk, v) {
+            return Ok(());
+        }
+        self.close(desk);
+        let before = self.tree.mark;
+        self.tree.put(disk, desk, v)?;
+        self.open_grown(desk, before, v.body().len());
+        Ok(())
     }
 
     fn remove<D: Disk>(&mut self, disk: &mut D, desk: &mut Desk, vid: Vid) -> Result<bool, Stop> {
-        BTree::remove(self, disk, desk, vid)
+        self.close(desk);
+        self.tree.remove(disk, desk, vid)
     }
 
     fn settle<D: Disk>(&mut self, _disk: &mut D, desk: &mut Desk) -> Result<(), Stop> {
+        self.close(desk);
         desk.owner = None;
         Ok(())
     }
 
-    fn rewind<D: Disk>(&mut self, _disk: &mut D, _desk: &mut Desk) -> Result<(), Stop> {
-        BTree::rewind(self);
+    fn rewind<D: Disk>(&mut self, _disk: &mut D, desk: &mut Desk) -> Result<(), Stop> {
+        self.close(desk);
+        self.tree.rewind();
         Ok(())
     }
 
@@ -87,18 +101,19 @@ impl Store for BTree {
         desk: &mut Desk,
         into: &mut VertexBuf,
     ) -> Result<bool, Stop> {
-        BTree::next(self, disk, desk, into)
+        self.close(desk);
+        self.tree.next(disk, desk, into)
     }
 
     fn depth(&self) -> u32 {
-        BTree::depth(self)
+        self.tree.depth()
     }
 
-    ghost stays = { tree_stays };
+    ghost stays = { stored_stays };
 
     ghost scan_stays = { place_stays };
 
     ghost scan_holds = { place_holds };
 
-    ghost is_map = { tree_map };
+    ghost is_map = { stored_map };
 }

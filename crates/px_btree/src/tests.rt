@@ -1,10 +1,10 @@
 // What no clause says: trees over a disk in memory, of one leaf, of two levels whose pages were written by hand, and of many pages.
 ghost use Rattle.std.specs.Prelude.{◌≡◌, ◌≤◌, ℕ, length, true, OnOk, IfOk};
 ghost use Rattle.px_core.specs.Shown.{Shown};
-ghost use Rattle.px_pages.specs.Page.{room_of};
+ghost use Rattle.px_meaning.specs.Graph.{room_of};
 ghost use Rattle.px_store.specs.Desks.{IsReady};
 
-use crate::BTree;
+use crate::tree::ClosedTree;
 use px_cache::Cache;
 use px_core::{Disk, Failed, Stop};
 use px_frames::Bank;
@@ -37,7 +37,7 @@ fn open_vertex(alloc: Global) -> Result<VertexBuf, AllocError>
 
 // Puts the fresh vertex of a vid.
 fn put_vid<D: Disk>(
-    tree: &mut BTree,
+    tree: &mut ClosedTree,
     disk: &mut D,
     desk: &mut Desk,
     v: &mut VertexBuf,
@@ -54,7 +54,7 @@ fn put_vid<D: Disk>(
 
 // An empty tree with three vertices.
 fn put_three<D: Disk>(
-    tree: &mut BTree,
+    tree: &mut ClosedTree,
     disk: &mut D,
     desk: &mut Desk,
     v: &mut VertexBuf,
@@ -72,7 +72,7 @@ fn put_three<D: Disk>(
 
 // An empty tree with the largest vid and those below a number, the greatest first.
 fn put_down<D: Disk>(
-    tree: &mut BTree,
+    tree: &mut ClosedTree,
     disk: &mut D,
     desk: &mut Desk,
     v: &mut VertexBuf,
@@ -92,7 +92,12 @@ fn put_down<D: Disk>(
 }
 
 // Removes the first even vids.
-fn remove_even<D: Disk>(tree: &mut BTree, disk: &mut D, desk: &mut Desk, n: u64) -> Result<(), Stop>
+fn remove_even<D: Disk>(
+    tree: &mut ClosedTree,
+    disk: &mut D,
+    desk: &mut Desk,
+    n: u64,
+) -> Result<(), Stop>
     requires ready { IsReady true tree.old.part desk.old (D.shown disk.old) }
     ensures ready { OnOk result (IsReady true tree.new.part desk.new (D.shown disk.new)) }
     ensures len { OnOk result ((D.shown disk.new).page_len ≡ (D.shown disk.old).page_len) }
@@ -105,7 +110,7 @@ fn remove_even<D: Disk>(tree: &mut BTree, disk: &mut D, desk: &mut Desk, n: u64)
 
 // Whether a scan gives so many vids from a first one on, the largest one, and no more.
 fn scan_gives<D: Disk>(
-    tree: &mut BTree,
+    tree: &mut ClosedTree,
     disk: &mut D,
     desk: &mut Desk,
     v: &mut VertexBuf,
@@ -132,7 +137,7 @@ fn scan_gives<D: Disk>(
 
 // Twice so many vids and the largest are put, and of those the odd ones and the largest stay.
 fn put_and_remove<D: Disk>(
-    tree: &mut BTree,
+    tree: &mut ClosedTree,
     disk: &mut D,
     desk: &mut Desk,
     v: &mut VertexBuf,
@@ -154,7 +159,7 @@ fn put_and_remove<D: Disk>(
 
 // The vids that the cursor has still to give, as the digits of a number.
 fn drain<D: Disk>(
-    tree: &mut BTree,
+    tree: &mut ClosedTree,
     disk: &mut D,
     desk: &mut Desk,
     v: &mut VertexBuf,
@@ -174,7 +179,7 @@ fn drain<D: Disk>(
 
 // The vids of the tree in order, as the digits of a number.
 fn scan<D: Disk>(
-    tree: &mut BTree,
+    tree: &mut ClosedTree,
     disk: &mut D,
     desk: &mut Desk,
     v: &mut VertexBuf,
@@ -208,7 +213,7 @@ fn write_root(page: &mut [u8])
 }
 
 // Two leaves with the vids 1, 3, 4 and 6, and a root over them.
-fn write_tree(disk: &mut MemDisk) -> Result<BTree, Failed>
+fn write_tree(disk: &mut MemDisk) -> Result<ClosedTree, Failed>
     requires { disk.old.page_len ≡ 256 }
     ensures len { disk.new.page_len ≡ 256 }
     ensures part { IfOk result (λ t. t.part ≡ 0) }
@@ -220,7 +225,7 @@ fn write_tree(disk: &mut MemDisk) -> Result<BTree, Failed>
     disk.write(0, 1, &page)?;
     write_root(&mut page);
     disk.write(0, 2, &page)?;
-    Ok(BTree {
+    Ok(ClosedTree {
         part: 0,
         root: 2,
         depth: 2,
@@ -239,7 +244,7 @@ fn a_leaf_is_put_to_and_read_in_order(rt: HostRuntime) -> Result<(), Fail> {
     disk.start(256)?;
     let mut desk = open_desk(rt.alloc())?;
     let mut v = open_vertex(rt.alloc())?;
-    let mut tree = BTree::open(0);
+    let mut tree = ClosedTree::open(0);
     put_three(&mut tree, &mut disk, &mut desk, &mut v)?;
     assert_eq!(rt; scan(&mut tree, &mut disk, &mut desk, &mut v)?, 257);
     assert_eq!(rt; (tree.depth(), disk.reads()), (1, 0));
@@ -251,7 +256,7 @@ fn a_failing_clear_is_graph(rt: HostRuntime) -> Result<(), Fail> {
     let mut disk = MemDisk::new(rt.alloc(), &[2])?;
     disk.start(256)?;
     let mut desk = open_desk(rt.alloc())?;
-    let mut tree = BTree::open(0);
+    let mut tree = ClosedTree::open(0);
     assert_eq!(rt; tree.start(&mut disk, &mut desk), Err(Stop::Graph));
     Ok(())
 }
@@ -279,7 +284,7 @@ fn a_tree_of_many_pages_is_put_to_scanned_and_removed_from(rt: HostRuntime) -> R
     disk.start(256)?;
     let mut desk = open_desk(rt.alloc())?;
     let mut v = open_vertex(rt.alloc())?;
-    let mut tree = BTree::open(0);
+    let mut tree = ClosedTree::open(0);
     assert!(rt; put_and_remove(&mut tree, &mut disk, &mut desk, &mut v, 500)?);
     assert!(rt; tree.depth() > 1);
     assert!(rt; !tree.get(&mut disk, &mut desk, 2, &mut v)?);
@@ -293,7 +298,7 @@ fn round(alloc: Global, fail: u64) -> Result<Result<bool, Stop>, Fail> {
     disk.start(256)?;
     let mut desk = open_desk(alloc)?;
     let mut v = open_vertex(alloc)?;
-    let mut tree = BTree::open(0);
+    let mut tree = ClosedTree::open(0);
     Ok(put_and_remove(&mut tree, &mut disk, &mut desk, &mut v, 40))
 }
 
@@ -334,10 +339,10 @@ fn write_chain(disk: &mut MemDisk) -> Result<(), Failed>
 }
 
 // A tree whose cursor is at the first of those leaves.
-fn open_chain() -> BTree
+fn open_chain() -> ClosedTree
     ensures { result.part ≡ 0 }
 {
-    let mut chain = BTree::open(0);
+    let mut chain = ClosedTree::open(0);
     chain.at = 3;
     chain.togo = 4;
     chain
@@ -356,7 +361,7 @@ fn sweep<D: Disk>(disk: &mut D, desk: &mut Desk, v: &mut VertexBuf) -> Result<u6
 
 // The pages that a call reads after a call with another vid, where the cache holds none of them.
 fn reads_after<D: Disk>(
-    tree: &mut BTree,
+    tree: &mut ClosedTree,
     disk: &mut D,
     desk: &mut Desk,
     v: &mut VertexBuf,

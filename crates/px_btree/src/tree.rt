@@ -16,7 +16,7 @@ pub(crate) struct Mark {
 
 /// A tree of pages in one file of the graph disk. Its leaves are linked from left to right.
 #[derive(Drop)]
-pub struct BTree {
+pub(crate) struct ClosedTree {
     pub(crate) part: u32,
     // The page of the root, and the number of levels.
     pub(crate) root: u64,
@@ -32,7 +32,7 @@ pub struct BTree {
     pub(crate) mark: Option<Mark>,
 }
 
-impl Model for BTree {
+impl Model for ClosedTree {
     ghost use Rattle.std.specs.Prelude.{◌<◌, ◌≤◌};
     ghost use Rattle.px_btree.specs.Tree.{TreeView};
 
@@ -43,13 +43,13 @@ impl Model for BTree {
     ghost invariant = { λ t. (t.part < 16) × (1 ≤ t.depth) × (t.depth ≤ 64) };
 }
 
-impl BTree {
+impl ClosedTree {
     /// A tree of this partition. It holds nothing before it is started.
-    pub fn open(partition: u32) -> BTree
+    pub(crate) fn open(partition: u32) -> ClosedTree
         requires { partition < 16 }
         ensures { result ≡ started_in partition }
     {
-        BTree {
+        ClosedTree {
             part: partition,
             root: 0,
             depth: 1,
@@ -63,7 +63,7 @@ impl BTree {
     }
 
     /// The number of levels of pages.
-    pub fn depth(&self) -> u32
+    pub(crate) fn depth(&self) -> u32
         ensures value { result ≡ self.now.depth }
         ensures most { result ≤ 64 }
     {

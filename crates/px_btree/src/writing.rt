@@ -1,14 +1,13 @@
 // The calls of the tree that write.
 ghost use Rattle.std.specs.Prelude.{◌≡◌, ◌≤◌, ◌<◌, ◌+◌, ◌*◌, true, is_some, OnOk, IfOk, IfErr, IsTrue, IsFalse};
 ghost use Rattle.px_core.specs.Shown.{Broke};
-ghost use Rattle.px_pages.specs.Page.{room_of};
-ghost use Rattle.px_meaning.specs.Graph.{Graph, lookup, put as put_item, delete as delete_item};
+ghost use Rattle.px_meaning.specs.Graph.{Graph, lookup, put as put_item, delete as delete_item, room_of};
 ghost use Rattle.px_cache.specs.View.{AnyFile};
 ghost use Rattle.px_store.specs.Desks.{IsReady, IsDone, SameDesk};
 ghost use Rattle.px_btree.specs.Tree.{IsHeld};
 
 use crate::page::{put_tuple_at, remove_tuple_at};
-use crate::tree::BTree;
+use crate::tree::ClosedTree;
 use px_core::{Disk, Stop, Vid};
 use px_pages::tags;
 use px_record::VertexBuf;
@@ -17,9 +16,9 @@ use px_store::Desk;
 // The most levels at which a place may be looked for twice within the reads of a put.
 const LOW: u32 = 42;
 
-impl BTree {
+impl ClosedTree {
     /// Puts a vertex into the leaf where its vid lies, or answers false where that has no room for it.
-    pub fn put_here<D: Disk>(
+    pub(crate) fn put_here<D: Disk>(
         &mut self,
         disk: &mut D,
         desk: &mut Desk,
@@ -66,7 +65,12 @@ impl BTree {
     }
 
     /// Puts a vertex, in the place of that with its vid.
-    pub fn put<D: Disk>(&mut self, disk: &mut D, desk: &mut Desk, v: &VertexBuf) -> Result<(), Stop>
+    pub(crate) fn put<D: Disk>(
+        &mut self,
+        disk: &mut D,
+        desk: &mut Desk,
+        v: &VertexBuf,
+    ) -> Result<(), Stop>
         requires ready { IsReady true self.old.part desk.old (D.shown disk.old) }
         requires room { v.now.room ≡ room_of (D.shown disk.old).page_len }
         ensures holds { OnOk result ((l : Graph) → IsHeld self.old desk.old (D.shown disk.old) l → IsHeld self.new desk.new (D.shown disk.new) (put_item v.now.vid v.now.vertex l)) }
@@ -85,7 +89,12 @@ impl BTree {
     }
 
     /// Removes a vid, and answers whether it was there.
-    pub fn remove<D: Disk>(&mut self, disk: &mut D, desk: &mut Desk, vid: Vid) -> Result<bool, Stop>
+    pub(crate) fn remove<D: Disk>(
+        &mut self,
+        disk: &mut D,
+        desk: &mut Desk,
+        vid: Vid,
+    ) -> Result<bool, Stop>
         requires { IsReady true self.old.part desk.old (D.shown disk.old) }
         ensures found { IfOk result (λ b. (l : Graph) → IsHeld self.old desk.old (D.shown disk.old) l → b ≡ is_some (lookup vid l)) }
         ensures holds { OnOk result ((l : Graph) → IsHeld self.old desk.old (D.shown disk.old) l → IsHeld self.new desk.new (D.shown disk.new) (delete_item vid l)) }

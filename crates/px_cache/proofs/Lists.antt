@@ -55,9 +55,6 @@ clean_fewer [] i h = absurd h
 clean_fewer (n ∷ ns) zero h = rw h (omega arith)
 clean_fewer (n ∷ ns) (suc i) h = omega (arith, clean_fewer ns i h)
 
-pub fitted_same : (old w : List ℕ) → length w ≡ length old → fitted old w ≡ w
-fitted_same old w is = grind (arith, common_steps, drop_all, take_all, append-nil)
-
 -- the notes, as if nothing was written: the same pages, pins and length
 pub to_bare : (ns : List Note) (i f p : ℕ) → Holds ns i f p → Holds (bare ns) i f p
 to_bare [] i f p h = h

@@ -250,8 +250,8 @@ impl Cache {
         }
     }
 
-    // The frame that holds a page. The one of its hint is asked first.
-    fn seek(&self, file: u32, page: u64) -> Option<u32>
+    /// The frame that holds a page, if one does. The one of its hint is asked first, and nothing is read.
+    pub fn seek(&self, file: u32, page: u64) -> Option<u32>
         ensures some { IfSome result (λ i. Holds self.now.notes i file page) }
         ensures none { IfNone result ((i : ℕ) → Holds self.now.notes i file page → ⊥) }
         ensures at { IfSome result (λ i. i < length self.now.notes) }

@@ -2,7 +2,8 @@ use Rattle.std.proofs.Common.{◌≡◌, ◌∙◌, sym, ap, subst, List, ℕ, [
 use Rattle.px_frames.specs.Lending.{fitted}
 use Rattle.px_pages.specs.Page.{IsMade, writer_of}
 use Rattle.px_cache.specs.View.{written_frame}
-use Rattle.px_cache.proofs.Lists.{fitted_same, length-mark}
+use Rattle.px_frames.proofs.Places.{fitted_same}
+use Rattle.px_cache.proofs.Lists.{length-mark}
 use Rattle.px_cache.proofs.Shows.{write_others, mark_holds}
 use Rattle.px_cache.proofs.Pins.{same-mark}
 use Rattle.px_btree.specs.Fill.{WithTuples}

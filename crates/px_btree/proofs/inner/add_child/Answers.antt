@@ -1,7 +1,7 @@
 use Rattle.std.proofs.Common.{◌≡◌, ◌∙◌, sym, ap, subst, List, ℕ, [], ◌∷◌, ◌++◌, length, get_or}
 use Rattle.px_frames.specs.Lending.{fitted}
 use Rattle.px_cache.specs.View.{written_frame}
-use Rattle.px_cache.proofs.Lists.{fitted_same}
+use Rattle.px_frames.proofs.Places.{fitted_same}
 use Rattle.px_cache.proofs.Shows.{write_others, mark_holds}
 use Rattle.px_cache.proofs.Pins.{same-mark}
 use Rattle.byteorder.specs.Endian.{big_bytes}

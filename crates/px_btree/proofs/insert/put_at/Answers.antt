@@ -3,7 +3,8 @@ use Rattle.std.specs.Prelude.{Some, slice_get}
 use Rattle.px_frames.specs.Lending.{fitted}
 use Rattle.px_pages.specs.Entry.{entry}
 use Rattle.px_cache.specs.View.{Shows, written_frame}
-use Rattle.px_cache.proofs.Lists.{fitted_same, some_is}
+use Rattle.px_frames.proofs.Places.{fitted_same}
+use Rattle.px_cache.proofs.Lists.{some_is}
 use Rattle.px_cache.proofs.Pins.{some_free, no_pins-mark, same-mark, same_then}
 use Rattle.px_cache.proofs.Shows.{write_shows, write_others, mark_holds}
 use Rattle.px_store.proofs.Apart.{clean_then}

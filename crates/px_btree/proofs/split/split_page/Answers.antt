@@ -6,7 +6,8 @@ use Rattle.px_pages.specs.Page.{tuples_of}
 use Rattle.px_pages.specs.Place.{IsPlace}
 use Rattle.px_frames.specs.Lending.{fitted}
 use Rattle.px_cache.specs.View.{CacheView, SameCache, written_frame, mark}
-use Rattle.px_cache.proofs.Lists.{fitted_same, length-mark}
+use Rattle.px_frames.proofs.Places.{fitted_same}
+use Rattle.px_cache.proofs.Lists.{length-mark}
 use Rattle.px_cache.proofs.Pins.{same-mark, some_free}
 use Rattle.px_cache.proofs.Shows.{same_page, holds_within}
 use Rattle.px_btree.specs.Split.{CutShown, CutsFor, IsFirst, IsSecond}

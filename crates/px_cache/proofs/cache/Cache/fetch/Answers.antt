@@ -3,7 +3,8 @@ use Rattle.std.specs.Prelude.{IfSome}
 use Rattle.px_core.specs.Shown.{Gives}
 use Rattle.px_frames.specs.Lending.{fitted}
 use Rattle.px_cache.specs.View.{CacheView, IsIdle, Holds, ShownAfterLoad, view_of}
-use Rattle.px_cache.proofs.Lists.{fitted_same, same_number}
+use Rattle.px_frames.proofs.Places.{fitted_same}
+use Rattle.px_cache.proofs.Lists.{same_number}
 use Rattle.px_cache.proofs.Shows.{load_shows, load_as}
 use Rattle.px_cache.proofs.cache.Cache.fetch.Goals as goal
 
