@@ -2,4 +2,4 @@ pub mod Taking
 pub mod Apart
 pub mod Rows
 pub mod Moving
-pub mod Dones
+pub mod Looking

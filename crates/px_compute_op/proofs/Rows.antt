@@ -16,7 +16,8 @@ use Rattle.px_program.specs.Posted.{Posted, Begins, IsPartOf, IsBeyond, made_for
 use Rattle.px_program.specs.Phase.{with_all, IsPartOfAll}
 use Rattle.px_program.proofs.Phases.{part_of_rows, wide_among_rows, beyond_by_part}
 use Rattle.px_compute_op.specs.Outs.{has_wide_pair}
-use Rattle.px_compute_op.specs.Phase.{HaveValidMessages, AreComputed, is_part_beyond, vertex_tuples}
+use Rattle.px_store.specs.Joins.{vertex_tuples}
+use Rattle.px_compute_op.specs.Phase.{HaveValidMessages, AreComputed, is_part_beyond}
 
 -- the first rows were computed, and the others are still to be given
 pub record RowsAt (p : ProgramMeaning) (at : Moment) (room : ℕ) (giving : List Row → Type 0) (updating : List Entry → Type 0) (taking : Posted → Type 0) (rows : List Row) : Type 0 where

@@ -8,8 +8,7 @@ use Rattle.px_meaning.specs.Merge.{Pairs}
 use Rattle.px_meaning.specs.Program.{ProgramMeaning, Keeps}
 use Rattle.px_program.specs.Groups.{GroupMade, IsOwn, room_in}
 use Rattle.px_program.specs.Posted.{Posted}
-use Rattle.px_connectors.specs.Asking.{IsRequestFile}
-use Rattle.px_connectors.specs.Writers.{WritersView, SameWriters}
+use Rattle.px_connectors.specs.Asking.{IsRequestFile, RequestsView, SameRequests}
 use Rattle.px_global_state.specs.declared.part.Part.{Part}
 
 -- the files that an outbox changes
@@ -20,15 +19,15 @@ IsOutFile made f = IsOwn made f ⊎ IsRequestFile f
 pub record Start : Type 0 where
   pub program : ProgramMeaning
   pub group : GroupMade
-  pub requests : WritersView
+  pub requests : RequestsView
   pub disk : Shown
 
 -- what is true of an outbox whatever was sent: it borrows what it was made with, its disk changed in its own files alone, and the group takes pairs while the outbox does
-pub record IsOut (start : Start) (program : ProgramMeaning) (group : GroupMade) (grouping : Bool) (requests : WritersView) (disk : Shown) (room : ℕ) (made : Part) (open_still : Bool) : Type 0 where
+pub record IsOut (start : Start) (program : ProgramMeaning) (group : GroupMade) (grouping : Bool) (requests : RequestsView) (disk : Shown) (room : ℕ) (made : Part) (open_still : Bool) : Type 0 where
   pub program_is : program ≡ start.program
   pub group_is : group ≡ start.group
   pub group_open : IsTrue open_still → IsTrue grouping
-  pub requests_are : SameWriters start.requests requests
+  pub requests_are : SameRequests start.requests requests
   pub touches : Touches (IsOutFile start.group) start.disk disk
   pub apart : Apart (IsOwn start.group) IsRequestFile
   pub group_len : start.group.frame_len ≡ start.disk.page_len
@@ -67,6 +66,6 @@ abbrev pub idle_start : Start
 idle_start = record {
   program = idle_program;
   group = record { size = 0; frames = 0; frame_len = 0; capacity = 0; first = 0; second = 0 };
-  requests = record { first = 0; frame_len = 0; size = 0; frames = 0; writers = []; pages = [] };
+  requests = record { frame_len = 0; size = 0; frames = 0; writers = record { first = 0; frame_len = 0; writers = []; pages = [] } };
   disk = record { tells = false; files = λ f. None; page_len = 0; faults = 0; reads = 0; writes = 0 };
 }

@@ -1,5 +1,5 @@
 -- The compute phase of one partition.
-use Rattle.std.specs.Prelude.{◌≡◌, ◌≢◌, ◌≤◌, ◌<◌, ◌⊎◌, ◌+◌, ℕ, Bool, ◌||◌, List, [], ◌++◌, map, false, fold, length}
+use Rattle.std.specs.Prelude.{◌≡◌, ◌≢◌, ◌≤◌, ◌<◌, ◌⊎◌, ◌+◌, ℕ, Bool, ◌||◌, List, [], ◌++◌, false, fold, length}
 use Rattle.std.specs.List.{AllByRecursion}
 use Rattle.px_core.specs.Counts.{Rose}
 use Rattle.px_core.specs.Same.{Apart}
@@ -8,20 +8,18 @@ use Rattle.px_core.specs.declared.stop.Stop.{Stop}
 use Rattle.px_core.specs.declared.stop.Stop.TheVariants.{Graph as GraphStop, Scratch, Beyond}
 use Rattle.px_cache.specs.View.{AnyFile}
 use Rattle.px_frames.specs.Buffer.{SameRoom as SameBuf}
-use Rattle.px_meaning.specs.Graph.{Graph}
+use Rattle.px_meaning.specs.Graph.{room_of}
 use Rattle.px_meaning.specs.Merge.{MergeRule, Pairs, IsValidMessage, grouped}
 use Rattle.px_meaning.specs.Program.{ProgramMeaning, Row}
 use Rattle.px_meaning.specs.Step.{Computed, has_wide_vertex, are_beyond}
-use Rattle.px_pages.specs.Entry.{Entry, entry}
-use Rattle.px_pages.specs.Page.{room_of}
-use Rattle.px_record.specs.Body.{body_of}
+use Rattle.px_pages.specs.Entry.{Entry}
 use Rattle.px_program.specs.Groups.{GroupMade, IsOwn}
 use Rattle.px_program.specs.Phase.{with_all}
 use Rattle.px_program.specs.Posted.{Posted, nothing, asks_too_much}
 use Rattle.px_connectors.specs.Asking.{IsRequestFile}
 use Rattle.px_connectors.specs.Views.{IsSenderFile}
 use Rattle.px_store.specs.Desks.{SameRoom}
-use Rattle.px_store.specs.Joins.{IsInput}
+use Rattle.px_store.specs.Joins.{IsInput, vertex_tuples}
 use Rattle.px_store.specs.declared.join.Inputs.{Inputs}
 use Rattle.px_global_state.specs.declared.part.Part.{Part}
 use Rattle.px_compute_op.specs.declared.phase.Bench.{Bench}
@@ -76,10 +74,6 @@ pub record SameBench {G : Type 0} (made : G → GroupMade) (old new : Bench G) :
   pub vertex : SameRoom old.vertex new.vertex
   pub message : SameBuf old.message new.message
   pub spare : SameBuf old.spare new.spare
-
--- new vertices as the tuples of updates
-abbrev pub vertex_tuples : Graph → List Entry
-vertex_tuples l = map (λ e. entry e.0 1 (body_of e.1)) l
 
 -- each row's message is valid
 abbrev pub HaveValidMessages : MergeRule → List Row → Type 0

@@ -1,20 +1,18 @@
 // The compute phase of a partition: its rows are computed, what they send is grouped, and the folds go to the connector.
-ghost use Rattle.std.specs.Prelude.{◌≡◌, ◌≢◌, ◌<◌, ◌≤◌, ◌+◌, ◌^◌, [], ℕ, false, OnOk, IfOk, IfErr, IsTrue, IsFalse, List};
+ghost use Rattle.std.specs.Prelude.{◌≡◌, ◌≢◌, ◌<◌, ◌≤◌, ◌+◌, ◌*◌, ◌^◌, [], ℕ, length, false, OnOk, IfOk, IfErr, IsTrue, IsFalse, List};
 ghost use Rattle.std.specs.Bool.{OnTrue};
 ghost use Rattle.px_core.specs.Same.{Apart};
 ghost use Rattle.px_core.specs.Shown.{Clean};
 ghost use Rattle.px_frames.specs.Buffer.{SameRoom};
-ghost use Rattle.px_meaning.specs.Graph.{Graph, IsMap};
+ghost use Rattle.px_meaning.specs.Graph.{Graph, IsMap, room_of};
 ghost use Rattle.px_meaning.specs.Merge.{Pairs};
 ghost use Rattle.px_meaning.specs.Program.{Row as MeantRow};
 ghost use Rattle.px_meaning.specs.Step.{computed, has_wide_fold};
-ghost use Rattle.px_pages.specs.Page.{room_of};
 ghost use Rattle.px_program.specs.Groups.{IsOwn, StopsGrouping, room_in};
 ghost use Rattle.px_program.specs.Phase.{with_all};
 ghost use Rattle.px_program.specs.Posted.{nothing};
 ghost use Rattle.px_stream.specs.Stream.{Took, Has};
-ghost use Rattle.px_connectors.specs.Asking.{Asked};
-ghost use Rattle.px_connectors.specs.Writers.{SameWriters};
+ghost use Rattle.px_connectors.specs.Asking.{SameRequests, Asked};
 ghost use Rattle.px_store.specs.Desks.{IsReady, IsDone, SameDesk};
 ghost use Rattle.px_store.specs.Joins.{HasRows};
 ghost use Rattle.px_global_state.specs.States.{moment_of};
@@ -123,10 +121,13 @@ fn each_row<P: Program, J: Join, G: Group, St: Store, GD: Disk, SD: Disk, K: Mea
         (GD.shown graph.old) (GD.shown graph.new) (SD.shown scratch.old) (SD.shown scratch.new)) }
     ensures leaves { OnTrue St.counted (St.leaves store.new ≡ St.leaves store.old) }
     ensures reads { IsFalse J.probing → OnTrue St.counted ((GD.shown graph.new).reads + St.unread store.new desk.new ≤ (GD.shown graph.old).reads + St.unread store.old desk.old) }
+    ensures few_reads { (l : Graph) (rows : List MeantRow)
+        → HasRows J.probing (St.holds store.old desk.old (GD.shown graph.old)) (St.scans store.old desk.old (GD.shown graph.old)) (J.gives join.old (SD.shown scratch.old)) l rows
+        → IsTrue J.probing → OnTrue St.counted ((GD.shown graph.new).reads ≤ (GD.shown graph.old).reads + 64 * length rows) }
     ensures part { St.part store.new ≡ St.part store.old }
     ensures desk { SameDesk desk.old desk.new }
     ensures join { J.view join.new ≡ J.view join.old }
-    ensures requests { SameWriters requests.old requests.new }
+    ensures requests { SameRequests requests.old requests.new }
     ensures bench { SameBench G.made bench.old bench.new }
 {
     let mut part = no_part(program);
@@ -206,11 +207,14 @@ pub fn run_partition<P: Program, J: Join, G: Group, C: Connector, St: Store, GD:
         (GD.shown graph.old) (GD.shown graph.new) (SD.shown scratch.old) (SD.shown scratch.new)) }
     ensures leaves { OnTrue St.counted (St.leaves store.new ≡ St.leaves store.old) }
     ensures reads { IsFalse J.probing → OnTrue St.counted ((GD.shown graph.new).reads + St.unread store.new desk.new ≤ (GD.shown graph.old).reads + St.unread store.old desk.old) }
+    ensures few_reads { (l : Graph) (rows : List MeantRow)
+        → HasRows J.probing (St.holds store.old desk.old (GD.shown graph.old)) (St.scans store.old desk.old (GD.shown graph.old)) (J.gives join.old (SD.shown scratch.old)) l rows
+        → IsTrue J.probing → OnTrue St.counted ((GD.shown graph.new).reads ≤ (GD.shown graph.old).reads + 64 * length rows) }
     ensures part { St.part store.new ≡ St.part store.old }
     ensures desk { SameDesk desk.old desk.new }
     ensures join { J.view join.new ≡ J.view join.old }
     ensures connector { C.view connector.new ≡ C.view connector.old }
-    ensures requests { SameWriters requests.old requests.new }
+    ensures requests { SameRequests requests.old requests.new }
     ensures bench { SameBench G.made bench.old bench.new }
 {
     let part = each_row::<P, J, G, St, GD, SD, Brand>(

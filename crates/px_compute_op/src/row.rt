@@ -9,8 +9,7 @@ ghost use Rattle.px_record.specs.Held.{SameRecord};
 ghost use Rattle.px_program.specs.Groups.{IsOwn, StopsGrouping, room_in};
 ghost use Rattle.px_program.specs.Posted.{Posted, with_out, StaysOpen, IsCause, IsPartOf, IsBeyond, made_for};
 ghost use Rattle.px_store.specs.Joins.{IsRow};
-ghost use Rattle.px_connectors.specs.Asking.{IsRequestFile, Asked};
-ghost use Rattle.px_connectors.specs.Writers.{SameWriters};
+ghost use Rattle.px_connectors.specs.Asking.{IsRequestFile, SameRequests, Asked};
 ghost use Rattle.px_program.specs.Calls.{moment_of as moment_at};
 ghost use Rattle.px_global_state.specs.States.{moment_of};
 ghost use Rattle.px_compute_op.specs.Outs.{IsOutFile, HasTaken};
@@ -120,7 +119,7 @@ pub fn compute_in<P: Program, G: Group, SD: Disk, K: Meant>(
         → (vertex.old.room < vertex_size (K.start.program.out_of (moment_of gs.now) r).vertex)
         ⊎ ((made : Posted) × IsPartOf (K.start.program.out_of (moment_of gs.now) r) p made × IsBeyond (made_for K.start.program vertex.old.room) made)) (SD.shown scratch.old) (SD.shown scratch.new)) }
     ensures group_stays { G.made group.new ≡ G.made group.old }
-    ensures requests_stay { SameWriters requests.old requests.new }
+    ensures requests_stay { SameRequests requests.old requests.new }
     ensures record_stays { SameRecord vertex.old vertex.new }
 {
     let room = vertex.room();

@@ -13,7 +13,8 @@ use Rattle.px_meaning.specs.Step.{has_wide_fold}
 use Rattle.px_meaning.proofs.Limits.{wide_with_more}
 use Rattle.px_meaning.proofs.Inbox.{AllValid-append, AllValid-parts}
 use Rattle.px_program.specs.Groups.{LeadsPair}
-use Rattle.px_connectors.specs.Messages.{pairs_of, message, messages}
+use Rattle.px_connectors.specs.Messages.{pairs_of, tagged}
+use Rattle.px_store.specs.Joins.{message_tuples}
 
 -- what a group took after `l`, and what the reader has still to give
 pub record Adding (T : Pairs → Type 0) (s : Shown) (r : ReaderView) (l : Pairs) (ins : List Entry) : Type 0 where
@@ -80,15 +81,15 @@ pub record Giving (Gives : Pairs → Type 0) (s : Shown) (w : WriterView) (l : L
   pub done : Pairs
   pub more : Pairs
   pub gives : Gives more
-  pub took : Took s w (l ++ messages done)
+  pub took : Took s w (l ++ message_tuples done)
   pub all : rest ≡ done ++ more
 
 -- none is given yet
 pub giving_first : (G : Pairs → Type 0) (s : Shown) (w : WriterView) (l : List Entry) (rest : Pairs) → G rest → Took s w l → Giving G s w l rest
 giving_first G s w l rest gives took = record { done = []; more = rest; gives = gives; took = subst (Took s w) (sym (append-nil l)) took; all = refl }
 
-messages_with : (l : List Entry) (done : Pairs) (e : ℕ × List ℕ) → (l ++ messages done) ++ message e ∷ [] ≡ l ++ messages (done ++ e ∷ [])
-messages_with l done e = append_assoc l (messages done) (message e ∷ []) ∙ ap (λ (x : List Entry). l ++ x) (sym (map-append message done (e ∷ [])))
+messages_with : (l : List Entry) (done : Pairs) (e : ℕ × List ℕ) → (l ++ message_tuples done) ++ tagged 0 e ∷ [] ≡ l ++ message_tuples (done ++ e ∷ [])
+messages_with l done e = append_assoc l (message_tuples done) (tagged 0 e ∷ []) ∙ ap (λ (x : List Entry). l ++ x) (sym (map-append (tagged 0) done (e ∷ [])))
 
 -- one pair is given and written
 pub giving_next : (G G' G'' : Pairs → Type 0) (a b c : Shown) (w w' : WriterView) (v : ℕ) (bytes : List ℕ) (l : List Entry) (rest : Pairs) → Same (Only w.file) a b
@@ -100,13 +101,13 @@ giving_next G G' G'' a b c w w' v bytes l rest t gives same takes i =
       done = i.done ++ (v, bytes) ∷ [];
       more = lead.rest;
       gives = same lead.rest lead.after;
-      took = subst (Took c w') (messages_with l i.done (v, bytes)) (takes (l ++ messages i.done) (took_same a b w (l ++ messages i.done) t i.took));
+      took = subst (Took c w') (messages_with l i.done (v, bytes)) (takes (l ++ message_tuples i.done) (took_same a b w (l ++ message_tuples i.done) t i.took));
       all = i.all ∙ ap (λ (x : Pairs). i.done ++ x) lead.is ∙ sym (append_assoc i.done ((v, bytes) ∷ []) lead.rest);
     }
 
 -- none is left to be given
 pub giving_end : (G : Pairs → Type 0) (a b : Shown) (w : WriterView) (l : List Entry) (rest : Pairs) → Same (Only w.file) a b
-    → ((k : Pairs) → G k → k ≡ []) → Giving G a w l rest → Took b w (l ++ messages rest)
+    → ((k : Pairs) → G k → k ≡ []) → Giving G a w l rest → Took b w (l ++ message_tuples rest)
 giving_end G a b w l rest t none i =
     let all : rest ≡ i.done = i.all ∙ ap (λ (x : Pairs). i.done ++ x) (none i.more i.gives) ∙ append-nil i.done in
-    subst (λ (x : Pairs). Took b w (l ++ messages x)) (sym all) (took_same a b w (l ++ messages i.done) t i.took)
+    subst (λ (x : Pairs). Took b w (l ++ message_tuples x)) (sym all) (took_same a b w (l ++ message_tuples i.done) t i.took)

@@ -2,8 +2,7 @@
 use Rattle.std.proofs.Common.{◌≡◌, ◌≤◌, ◌<◌, ◌≢◌, ℕ, zero, suc, ◌+◌, ◌^◌, ◌==◌, List, [], ◌∷◌, ◌++◌, length, map, filter, Bool, true, false, sym, ◌∙◌, ap, subst, refl, inl, inr, arith}
 use Rattle.std.specs.Prelude.{Option, Some, None, slice_index_or, slice_set}
 use Rattle.std.specs.List.{refill}
-use Rattle.std.proofs.lemmas.Bool.{cases_eq, ne_eqb}
-use Rattle.std.proofs.lemmas.Bool.Decides.{eqb_tells}
+use Rattle.std.proofs.lemmas.Bool.{cases_eq, eq-eqb, ne_eqb}
 use Rattle.std.proofs.lemmas.List.{get_or-set_same, get_or-set_other, length-set, map-append, append-nil, get_or_append_left, length-append}
 use Rattle.std.proofs.Math.Seq.{get_or-append_seam}
 use Rattle.std.proofs.lemmas.List.Elements.{filter-append}
@@ -53,16 +52,15 @@ each_set P Q ws q o lt here others each i below = elim (cases_eq i q) [
 ]
 
 -- the writer that is changed writes its file as before
-pub are_set : (first len size spare : ℕ) (pages pages' : List ℕ) (ws : List (Option WriterView)) (q : ℕ) (was o : Option WriterView) → q < length ws
+pub are_set : (first len : ℕ) (pages pages' : List ℕ) (ws : List (Option WriterView)) (q : ℕ) (was o : Option WriterView) → q < length ws
     → was ≡ slice_index_or ws q None → ((f n p : ℕ) → OfWriter (WritesPart f n p) was → OfWriter (WritesPart f n p) o)
-    → AreWriters (record { first = first; frame_len = len; size = size; frames = spare + length ws; writers = ws; pages = pages })
-    → AreWriters (record { first = first; frame_len = len; size = size; frames = spare + length (slice_set ws q o); writers = slice_set ws q o; pages = pages' })
-are_set first len size spare pages pages' ws q was o lt at same are =
+    → AreWriters (record { first = first; frame_len = len; writers = ws; pages = pages })
+    → AreWriters (record { first = first; frame_len = len; writers = slice_set ws q o; pages = pages' })
+are_set first len pages pages' ws q was o lt at same are =
     let long = length-set ws q o in
     record {
       some = omega (arith, long, are.some);
       most = omega (arith, long, are.most);
-      frames = omega (arith, long, are.frames);
       last = are.last;
       len = are.len;
       each = each_set (WritesPart first len) (WritesPart first len) ws q o lt (same first len q (subst (OfWriter (WritesPart first len q)) (sym at) (are.each q lt))) (λ i w other h. h) are.each;
@@ -102,17 +100,11 @@ one_kept p x is = rw is refl
 one_dropped : (p : ℕ × List ℕ → Bool) (x : ℕ × List ℕ) → p x ≡ false → filter p (x ∷ []) ≡ []
 one_dropped p x is = rw is refl
 
-is_eq : (a b : ℕ) → a ≡ b → (a == b) ≡ true
-is_eq a b is = elim (eqb_tells a b) [
-  | inl same ↦ same.0
-  | inr other ↦ absurd (other.1 is)
-]
-
 -- what belongs to a partition once a pair is put
 pub to_part-push_same : (parts q vid : ℕ) (l : Pairs) (body : List ℕ) → partition_of vid parts ≡ q → to_part parts q (l ++ (vid, body) ∷ []) ≡ to_part parts q l ++ (vid, body) ∷ []
 to_part-push_same parts q vid l body is =
     let p : ℕ × List ℕ → Bool = λ e. partition_of e.0 parts == q in
-    filter-append p l ((vid, body) ∷ []) ∙ ap (λ (x : Pairs). filter p l ++ x) (one_kept p (vid, body) (is_eq (partition_of vid parts) q is))
+    filter-append p l ((vid, body) ∷ []) ∙ ap (λ (x : Pairs). filter p l ++ x) (one_kept p (vid, body) (eq-eqb (partition_of vid parts) q is))
 
 pub to_part-push_other : (parts q vid : ℕ) (l : Pairs) (body : List ℕ) → partition_of vid parts ≢ q → to_part parts q (l ++ (vid, body) ∷ []) ≡ to_part parts q l
 to_part-push_other parts q vid l body other =
@@ -120,13 +112,13 @@ to_part-push_other parts q vid l body other =
     filter-append p l ((vid, body) ∷ []) ∙ ap (λ (x : Pairs). filter p l ++ x) (one_dropped p (vid, body) (ne_eqb (partition_of vid parts) q other)) ∙ append-nil (filter p l)
 
 -- a pair is put to the writer of its partition
-pub took_put : (tag first len size spare : ℕ) (pages : List ℕ) (ws : List (Option WriterView)) (q vid : ℕ) (was o : Option WriterView) (a b : Shown) (l : Pairs) (body : List ℕ)
+pub took_put : (tag first len : ℕ) (pages : List ℕ) (ws : List (Option WriterView)) (q vid : ℕ) (was o : Option WriterView) (a b : Shown) (l : Pairs) (body : List ℕ)
     → q < length ws → was ≡ slice_index_or ws q None → partition_of vid (length ws) ≡ q → Touches (Only (first + q)) a b
-    → AreWriters (record { first = first; frame_len = len; size = size; frames = spare + length (slice_set ws q o); writers = slice_set ws q o; pages = pages })
+    → AreWriters (record { first = first; frame_len = len; writers = slice_set ws q o; pages = pages })
     → ((k : Pairs) → OfWriter (λ w. TookAll a tag w k) was → OfWriter (λ w. TookAll b tag w (k ++ (vid, body) ∷ [])) o)
-    → TookParts a tag (record { first = first; frame_len = len; size = size; frames = spare + length ws; writers = ws; pages = pages }) l
-    → TookParts b tag (record { first = first; frame_len = len; size = size; frames = spare + length (slice_set ws q o); writers = slice_set ws q o; pages = pages }) (l ++ (vid, body) ∷ [])
-took_put tag first len size spare pages ws q vid was o a b l body lt at is t are put took =
+    → TookParts a tag (record { first = first; frame_len = len; writers = ws; pages = pages }) l
+    → TookParts b tag (record { first = first; frame_len = len; writers = slice_set ws q o; pages = pages }) (l ++ (vid, body) ∷ [])
+took_put tag first len pages ws q vid was o a b l body lt at is t are put took =
     let long = length-set ws q o in
     let n = length ws in
     let Q : ℕ → WriterView → Type 0 = λ i w. TookAll b tag w (to_part n i (l ++ (vid, body) ∷ [])) in
@@ -195,14 +187,13 @@ pub ended : (s : Shown) (tag q parts first : ℕ) (v : WritersView) (l : Pairs) 
 ended s tag q parts first v l most past h = record { most = most; each = λ i lt. h.done i (omega (arith, past, lt)) }
 
 -- all writers are turned to other files
-pub are_turned : (first first' len size spare : ℕ) (pages : List ℕ) (ws ws' : List (Option WriterView)) → length ws' ≡ length ws → first' + 16 ≤ 2 ^ 31
+pub are_turned : (first first' len : ℕ) (pages : List ℕ) (ws ws' : List (Option WriterView)) → length ws' ≡ length ws → first' + 16 ≤ 2 ^ 31
     → (EachWriter (WritesPart first len) ws → EachWriter (WritesPart first' len) ws')
-    → AreWriters (record { first = first; frame_len = len; size = size; frames = spare + length ws; writers = ws; pages = pages })
-    → AreWriters (record { first = first'; frame_len = len; size = size; frames = spare + length ws'; writers = ws'; pages = pages })
-are_turned first first' len size spare pages ws ws' long last each are = record {
+    → AreWriters (record { first = first; frame_len = len; writers = ws; pages = pages })
+    → AreWriters (record { first = first'; frame_len = len; writers = ws'; pages = pages })
+are_turned first first' len pages ws ws' long last each are = record {
   some = omega (arith, long, are.some);
   most = omega (arith, long, are.most);
-  frames = omega (arith, long, are.frames);
   last = last;
   len = are.len;
   each = each are.each;

@@ -14,10 +14,10 @@ senders_apart : (p q : ℕ) → p ≢ q → Apart (IsSenderFile p) (IsSenderFile
 senders_apart p q other f a b = other (omega (arith, a.low, a.high, b.low, b.high))
 
 -- another sender's list stays
-pub sent_other : (v v' : WritersView) (sender sender' q p : ℕ) (pages pages' : List (List ℕ)) (s t : Shown) (l : Pairs) → p ≢ q → parts_in v' ≡ parts_in v
+pub sent_other : (size size' frames frames' : ℕ) (v v' : WritersView) (sender sender' q p : ℕ) (pages pages' : List (List ℕ)) (s t : Shown) (l : Pairs) → p ≢ q → parts_in v' ≡ parts_in v
     → slice_index_or pages' p [] ≡ slice_index_or pages p [] → Touches (IsSenderFile q) s t
-    → HasSent (record { writers = v; sender = sender; pages = pages }) s p l → HasSent (record { writers = v'; sender = sender'; pages = pages' }) t p l
-sent_other v v' sender sender' q p pages pages' s t l other parts rows touches sent =
+    → HasSent (record { size = size; frames = frames; writers = v; sender = sender; pages = pages }) s p l → HasSent (record { size = size'; frames = frames'; writers = v'; sender = sender'; pages = pages' }) t p l
+sent_other size size' frames frames' v v' sender sender' q p pages pages' s t l other parts rows touches sent =
     let same = same_by_touches (IsSenderFile p) (IsSenderFile q) s t (senders_apart p q other) touches in
     let held = hold_parts_same s t 0 (256 + 16 * p) (parts_in v) (slice_index_or pages p []) l same sent.holds in
     record {
@@ -27,14 +27,14 @@ sent_other v v' sender sender' q p pages pages' s t l other parts rows touches s
     }
 
 -- all but the sender is seen as before
-pub view_same : (v v' : WritersView) (sender sender' : ℕ) (pages pages' : List (List ℕ)) → SameWriters v v'
-    → view_of (record { writers = v'; sender = sender'; pages = pages' }) ≡ record (view_of (record { writers = v; sender = sender; pages = pages })) { sender = sender' }
-view_same v v' sender sender' pages pages' h = rw (h.parts, h.frame_len, h.size, h.frames) refl
+pub view_same : (size spare : ℕ) (v v' : WritersView) (sender sender' : ℕ) (pages pages' : List (List ℕ)) → SameWriters v v'
+    → view_of (record { size = size; frames = spare + parts_in v'; writers = v'; sender = sender'; pages = pages' }) ≡ record (view_of (record { size = size; frames = spare + parts_in v; writers = v; sender = sender; pages = pages })) { sender = sender' }
+view_same size spare v v' sender sender' pages pages' h = rw (h.parts, h.frame_len) refl
 
 -- the sender is finished, and the numbers of pages of its files are kept in its row
-pub sent_now : (v v' : WritersView) (sender p : ℕ) (pages : List (List ℕ)) (t : Shown) (l : Pairs) → p ≡ sender → sender < parts_in v → sender < length pages → v.first ≡ 256 + 16 * sender
-    → parts_in v' ≡ parts_in v → HoldParts t 0 v.first (parts_in v) v'.pages l → HasSent (record { writers = v'; sender = sender; pages = slice_set pages sender v'.pages }) t p l
-sent_now v v' sender p pages t l is below row first parts holds = rw is (record {
+pub sent_now : (size frames : ℕ) (v v' : WritersView) (sender p : ℕ) (pages : List (List ℕ)) (t : Shown) (l : Pairs) → p ≡ sender → sender < parts_in v → sender < length pages → v.first ≡ 256 + 16 * sender
+    → parts_in v' ≡ parts_in v → HoldParts t 0 v.first (parts_in v) v'.pages l → HasSent (record { size = size; frames = frames; writers = v'; sender = sender; pages = slice_set pages sender v'.pages }) t p l
+sent_now size frames v v' sender p pages t l is below row first parts holds = rw is (record {
   below = subst (λ (n : ℕ). sender < n) (sym parts) below;
   holds =
       let at = subst (λ (f : ℕ). HoldParts t 0 f (parts_in v) v'.pages l) first holds in

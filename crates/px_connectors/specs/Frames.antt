@@ -11,7 +11,7 @@ use Rattle.px_stream.specs.Views.{WriterView}
 use Rattle.px_stream.proofs.Kept.{took_same, has_same}
 use Rattle.px_connectors.specs.Messages.{tagged}
 use Rattle.px_connectors.specs.Writers.{WritersView, parts_in, writer_at, IsPartFile, OfWriter, WritesPart, TookAll, TookParts, HoldParts}
-use Rattle.px_connectors.specs.Asking.{IsRequestFile, Asked}
+use Rattle.px_connectors.specs.Asking.{IsRequestFile, RequestsView, Asked}
 use Rattle.px_connectors.specs.Views.{PartitioningView, view_of, IsSenderFile, Sends, HasSent}
 
 pub of_both : (P Q R : WriterView → Type 0) (o : Option WriterView) → ((w : WriterView) → P w → Q w → R w) → OfWriter P o → OfWriter Q o → OfWriter R o
@@ -44,10 +44,10 @@ hold_parts_same s t tag first parts pages l same h = record {
 }
 
 -- what was requested
-pub asked_same : (s t : Shown) (r : WritersView) (l : Pairs) → Same IsRequestFile s t → Asked s r l → Asked t r l
+pub asked_same : (s t : Shown) (r : RequestsView) (l : Pairs) → Same IsRequestFile s t → Asked s r l → Asked t r l
 asked_same s t r l same asked = record {
   first = asked.first;
-  took = took_parts_same s t 2 r l (subst (λ (f : ℕ). Same (IsPartFile f) s t) (sym asked.first) same) asked.took;
+  took = took_parts_same s t 2 r.writers l (subst (λ (f : ℕ). Same (IsPartFile f) s t) (sym asked.first) same) asked.took;
 }
 
 -- what a sender put so far

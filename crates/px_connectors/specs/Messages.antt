@@ -10,10 +10,3 @@ pairs_of es = map (λ (e : Entry). (e.key, e.body)) es
 -- a pair as a tuple with this tag
 abbrev pub tagged : ℕ → ℕ × List ℕ → Entry
 tagged tag p = entry p.0 tag p.1
-
--- a pair as the tuple of a message
-abbrev pub message : ℕ × List ℕ → Entry
-message p = entry p.0 0 p.1
-
-abbrev pub messages : Pairs → List Entry
-messages l = map message l

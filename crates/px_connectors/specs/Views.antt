@@ -21,14 +21,16 @@ IsSenderFile p f = IsPartFile (256 + 16 * p) f
 abbrev pub AllUpTo : ℕ → Pairs → Type 0
 AllUpTo v pairs = IsTrue (list_all (λ e. nat_le e.0 v) pairs)
 
--- a plain connector as the writers of its sender, that sender, and how many pages each file of each sender had when that sender was finished last
+-- a plain connector as the places of its share, the number of frames that were in it, the writers of its sender, that sender, and how many pages each file of each sender had when that sender was finished last
 pub record PartitioningView : Type 0 where
+  pub size : ℕ
+  pub frames : ℕ
   pub writers : WritersView
   pub sender : ℕ
   pub pages : List (List ℕ)
 
 abbrev pub view_of : PartitioningView → ConnectorView
-view_of c = record { parts = parts_in c.writers; sender = c.sender; frame_len = c.writers.frame_len; size = c.writers.size; frames = c.writers.frames }
+view_of c = record { parts = parts_in c.writers; sender = c.sender; frame_len = c.writers.frame_len; size = c.size; frames = c.frames }
 
 -- the disk tells, the sender is begun, and put these pairs so far
 pub record Sends (c : PartitioningView) (s : Shown) (p : ℕ) (l : Pairs) : Type 0 where

@@ -8,13 +8,10 @@ use Rattle.px_stream.specs.Stream.{Took, Holds}
 use Rattle.px_stream.specs.Views.{WriterView}
 use Rattle.px_connectors.specs.Messages.{tagged}
 
--- the file of the first partition, the length of the frames, the places of the share that they came from, the number of frames that were in it, the writer of each partition,
--- and how many pages each file had when its writers were finished last
+-- the file of the first partition, the length of the frames, the writer of each partition, and how many pages each file had when its writers were finished last
 pub record WritersView : Type 0 where
   pub first : ℕ
   pub frame_len : ℕ
-  pub size : ℕ
-  pub frames : ℕ
   pub writers : List (Option WriterView)
   pub pages : List ℕ
 
@@ -53,7 +50,6 @@ pub record WritesPart (first len q : ℕ) (w : WriterView) : Type 0 where
 pub record AreWriters (v : WritersView) : Type 0 where
   pub some : 1 ≤ parts_in v
   pub most : parts_in v ≤ 16
-  pub frames : v.frames ≤ v.size
   pub last : v.first + 16 ≤ 2 ^ 31
   pub len : IsPageLen v.frame_len
   pub each : EachWriter (WritesPart v.first v.frame_len) v.writers
@@ -78,5 +74,3 @@ pub record SameWriters (old new : WritersView) : Type 0 where
   pub first : new.first ≡ old.first
   pub parts : parts_in new ≡ parts_in old
   pub frame_len : new.frame_len ≡ old.frame_len
-  pub size : new.size ≡ old.size
-  pub frames : new.frames ≡ old.frames

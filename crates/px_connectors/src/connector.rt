@@ -2,9 +2,8 @@
 ghost use Rattle.std.specs.Prelude.{◌≡◌, ◌≢◌, ◌≤◌, ◌<◌, ◌++◌, [], ◌∷◌, ℕ, true, length, OnOk, IfErr};
 ghost use Rattle.px_core.specs.Same.{Same};
 ghost use Rattle.px_core.specs.Shown.{Shown, Clean, Broke};
-ghost use Rattle.px_meaning.specs.Graph.{pair_size};
+ghost use Rattle.px_meaning.specs.Graph.{pair_size, room_of};
 ghost use Rattle.px_meaning.specs.Merge.{Pairs};
-ghost use Rattle.px_pages.specs.Page.{room_of};
 ghost use Rattle.px_connectors.specs.Views.{ConnectorView, IsSenderFile, AllUpTo};
 
 use px_core::{Disk, Stop, Vid};

@@ -7,7 +7,8 @@ ghost use Rattle.px_stream.specs.Stream.{Took, Has, ToGive};
 ghost use Rattle.px_meaning.specs.Merge.{Pairs, AllValid, grouped};
 ghost use Rattle.px_meaning.specs.Step.{has_wide_fold};
 ghost use Rattle.px_program.specs.Groups.{room_in, IsOwn, StopsGrouping};
-ghost use Rattle.px_connectors.specs.Messages.{pairs_of, messages};
+ghost use Rattle.px_connectors.specs.Messages.{pairs_of};
+ghost use Rattle.px_store.specs.Joins.{message_tuples};
 ghost use Rattle.px_connectors.specs.Files.{OwnOr, OwnOrEither};
 
 use px_core::{Disk, Stop};
@@ -61,7 +62,7 @@ fn write_folds<D: Disk, M: Merge, G: Group>(
     requires limit { 13 + into.old.limit ≡ room_in (G.made group.old) }
     requires sealed { IsTrue (G.is_sealed group.old) }
     requires apart { IsOwn (G.made group.old) to.old.file → ⊥ }
-    ensures took { OnOk result ((all rest : Pairs) (l : List Entry) → G.gives (D.shown disk.old) group.old (M.rule merge.now) all rest → Took (D.shown disk.old) to.old l → Took (D.shown disk.new) to.new (l ++ messages rest)) }
+    ensures took { OnOk result ((all rest : Pairs) (l : List Entry) → G.gives (D.shown disk.old) group.old (M.rule merge.now) all rest → Took (D.shown disk.old) to.old l → Took (D.shown disk.new) to.new (l ++ message_tuples rest)) }
     ensures fits { OnOk result ((all rest : Pairs) → G.gives (D.shown disk.old) group.old (M.rule merge.now) all rest → has_wide_fold (M.rule merge.now) (room_in (G.made group.old)) all ≡ false) }
     ensures ok { OnOk result (Clean (OwnOr (G.made group.old) to.old.file) (D.shown disk.old) (D.shown disk.new)) }
     ensures err { IfErr result (StopsGrouping (OwnOr (G.made group.old) to.old.file)
@@ -99,7 +100,7 @@ pub fn gather<D: Disk, M: Merge, G: Group>(
     requires to_apart { IsOwn (G.made group.old) to.old.file → ⊥ }
     requires apart { from.old.file ≢ to.old.file }
     ensures holds { OnOk result ((ins : List Entry) → ToGive (D.shown disk.old) from.old ins → AllValid (M.rule merge.now) (pairs_of ins) → G.took (D.shown disk.old) group.old (M.rule merge.now) [] → Took (D.shown disk.old) to.old []
-        → Has (D.shown disk.new) to.new.file to.new.first to.new.pages (messages (grouped (M.rule merge.now) (pairs_of ins)))) }
+        → Has (D.shown disk.new) to.new.file to.new.first to.new.pages (message_tuples (grouped (M.rule merge.now) (pairs_of ins)))) }
     ensures fits { OnOk result ((ins : List Entry) → ToGive (D.shown disk.old) from.old ins → AllValid (M.rule merge.now) (pairs_of ins) → G.took (D.shown disk.old) group.old (M.rule merge.now) []
         → has_wide_fold (M.rule merge.now) (room_in (G.made group.old)) (pairs_of ins) ≡ false) }
     ensures ok { OnOk result (Clean (OwnOr (G.made group.old) to.old.file) (D.shown disk.old) (D.shown disk.new)) }

@@ -11,6 +11,7 @@ pub use connector::Connector;
 pub use gathering::gather;
 pub use partitioning::Partitioning;
 pub use requests::Requests;
+pub use writers::{MOST_PARTS, PartWriters};
 
 #[cfg(test)]
 mod tests;

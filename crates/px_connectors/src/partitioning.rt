@@ -3,9 +3,8 @@
 // From sender p to receiver q goes the file 256 + 16p + q. It is a stream of the pairs that the sender put to vids of partition q, in that order, each a tuple with the tag of a message.
 ghost use Rattle.std.specs.Prelude.{◌≡◌, ◌≢◌, ◌≤◌, ◌<◌, ◌+◌, ◌*◌, ◌++◌, [], ◌∷◌, ℕ, true, length, OnOk, IfErr};
 ghost use Rattle.px_core.specs.Shown.{Clean, Broke};
-ghost use Rattle.px_meaning.specs.Graph.{pair_size};
+ghost use Rattle.px_meaning.specs.Graph.{pair_size, room_of};
 ghost use Rattle.px_meaning.specs.Merge.{Pairs};
-ghost use Rattle.px_pages.specs.Page.{room_of};
 ghost use Rattle.px_connectors.specs.Views.{view_of, IsSenderFile, AllUpTo, Sends, HasSent};
 ghost use Rattle.px_connectors.specs.Frames.{sends_stays, has_sent_stays, sends_sender};
 
@@ -19,6 +18,8 @@ use std::marker::Model;
 /// The connector that keeps what each sender puts to each receiver in a file, and folds nothing.
 #[derive(Drop)]
 pub struct Partitioning {
+    // The frames that the writers have not taken.
+    share: Share,
     writers: PartWriters,
     // The sender that was begun last.
     sender: u32,
@@ -33,9 +34,9 @@ impl Model for Partitioning {
 
     ghost Value = { PartitioningView };
 
-    ghost view = { λ c. record { writers = c.writers; sender = c.sender; pages = c.pages } };
+    ghost view = { λ c. record { size = c.share.size; frames = length c.share.frames + parts_in c.writers; writers = c.writers; sender = c.sender; pages = c.pages } };
 
-    ghost invariant = { λ c. (c.sender < parts_in c.writers) × (parts_in c.writers ≤ 16) × (c.writers.first ≡ 256 + 16 * c.sender) × (length c.pages ≡ 16) };
+    ghost invariant = { λ c. (c.sender < parts_in c.writers) × (parts_in c.writers ≤ 16) × (c.writers.first ≡ 256 + 16 * c.sender) × (length c.pages ≡ 16) × (c.writers.frame_len ≡ c.share.frame_len) × (length c.share.frames + parts_in c.writers ≤ c.share.size) };
 }
 
 // The file from a sender to receiver 0.
@@ -54,15 +55,24 @@ impl Connector for Partitioning {
     ghost sent = { HasSent };
 
     fn open(share: Share, partitions: u32) -> Partitioning {
+        let mut share = share;
+        let writers = PartWriters::open(&mut share, partitions, first_file(0));
         Partitioning {
-            writers: PartWriters::open(share, partitions, first_file(0)),
+            share,
+            writers,
             sender: 0,
             pages: [[0; MOST_PARTS]; MOST_PARTS],
         }
     }
 
     fn close(self) -> Share {
-        self.writers.close()
+        let Partitioning {
+            mut share,
+            writers,
+            ..
+        } = self;
+        writers.close(&mut share);
+        share
     }
 
     fn begin<D: Disk>(&mut self, disk: &mut D, sender: u32) -> Result<(), Stop> {

@@ -3,11 +3,9 @@
 // Receiver q has the file 160 + q. It is a stream of the requests to vids of partition q, in the order in which they were put, each a tuple with the tag of a request.
 ghost use Rattle.std.specs.Prelude.{◌≡◌, ◌≤◌, ◌<◌, ◌++◌, [], ◌∷◌, true, length, OnOk, IfErr};
 ghost use Rattle.px_core.specs.Shown.{Clean, Broke};
-ghost use Rattle.px_meaning.specs.Graph.{pair_size};
+ghost use Rattle.px_meaning.specs.Graph.{pair_size, room_of};
 ghost use Rattle.px_meaning.specs.Merge.{Pairs};
-ghost use Rattle.px_pages.specs.Page.{room_of};
-ghost use Rattle.px_connectors.specs.Asking.{IsRequestFile, Asked, AskedOf, pages_of};
-ghost use Rattle.px_connectors.specs.Writers.{parts_in, SameWriters};
+ghost use Rattle.px_connectors.specs.Asking.{IsRequestFile, receivers, SameRequests, Asked, AskedOf, pages_of};
 
 use crate::writers::PartWriters;
 use px_core::{Disk, Stop, Vid};
@@ -22,18 +20,21 @@ const FIRST_FILE: u32 = 160;
 /// The only error is `Stop::Scratch`, where the disk failed; after it nothing is said of the requests until the next `start`.
 #[derive(Drop)]
 pub struct Requests {
+    // The frames that the writers have not taken.
+    share: Share,
     writers: PartWriters,
 }
 
 impl Model for Requests {
-    ghost use Rattle.std.specs.Prelude.{◌≡◌};
-    ghost use Rattle.px_connectors.specs.Writers.{WritersView};
+    ghost use Rattle.std.specs.Prelude.{◌≡◌, ◌≤◌, ◌+◌, length};
+    ghost use Rattle.px_connectors.specs.Asking.{RequestsView};
+    ghost use Rattle.px_connectors.specs.Writers.{parts_in};
 
-    ghost Value = { WritersView };
+    ghost Value = { RequestsView };
 
-    ghost view = { λ r. r.writers };
+    ghost view = { λ r. record { frame_len = r.share.frame_len; size = r.share.size; frames = length r.share.frames + parts_in r.writers; writers = r.writers } };
 
-    ghost invariant = { λ r. r.writers.first ≡ 160 };
+    ghost invariant = { λ r. (r.writers.first ≡ 160) × (r.writers.frame_len ≡ r.share.frame_len) × (length r.share.frames + parts_in r.writers ≤ r.share.size) };
 }
 
 impl Requests {
@@ -42,14 +43,14 @@ impl Requests {
         requires some { 1 ≤ partitions }
         requires most { partitions ≤ 16 }
         requires frames { partitions ≤ length share.frames }
-        ensures parts { parts_in result ≡ partitions }
+        ensures receivers { receivers result ≡ partitions }
         ensures frame_len { result.frame_len ≡ share.frame_len }
         ensures size { result.size ≡ share.size }
         ensures frames { result.frames ≡ length share.frames }
     {
-        Requests {
-            writers: PartWriters::open(share, partitions, FIRST_FILE),
-        }
+        let mut share = share;
+        let writers = PartWriters::open(&mut share, partitions, FIRST_FILE);
+        Requests { share, writers }
     }
 
     /// The share, with all its frames.
@@ -58,7 +59,9 @@ impl Requests {
         ensures size { result.size ≡ self.size }
         ensures frames { length result.frames ≡ self.frames }
     {
-        self.writers.close()
+        let Requests { mut share, writers } = self;
+        writers.close(&mut share);
+        share
     }
 
     /// Begins a superstep: the files of all receivers are cleared, and nothing is requested.
@@ -67,7 +70,7 @@ impl Requests {
         ensures asked { OnOk result ((D.shown disk.old).tells ≡ true → Asked (D.shown disk.new) self.new []) }
         ensures ok { OnOk result (Clean IsRequestFile (D.shown disk.old) (D.shown disk.new)) }
         ensures err { IfErr result (Broke Stop.Scratch IsRequestFile (D.shown disk.old) (D.shown disk.new)) }
-        ensures stays { SameWriters self.old self.new }
+        ensures stays { SameRequests self.old self.new }
     {
         self.writers.start(disk)?;
         Ok(())
@@ -80,7 +83,7 @@ impl Requests {
         ensures asked { OnOk result ((l : Pairs) → Asked (D.shown disk.old) self.old l → Asked (D.shown disk.new) self.new (l ++ (vid, verdict.now) ∷ [])) }
         ensures ok { OnOk result (Clean IsRequestFile (D.shown disk.old) (D.shown disk.new)) }
         ensures err { IfErr result (Broke Stop.Scratch IsRequestFile (D.shown disk.old) (D.shown disk.new)) }
-        ensures stays { SameWriters self.old self.new }
+        ensures stays { SameRequests self.old self.new }
     {
         self.writers.put(disk, vid, tags::REQUEST, verdict)?;
         Ok(())
@@ -92,7 +95,7 @@ impl Requests {
         ensures holds { OnOk result ((l : Pairs) → Asked (D.shown disk.old) self.old l → AskedOf (D.shown disk.new) self.new l) }
         ensures ok { OnOk result (Clean IsRequestFile (D.shown disk.old) (D.shown disk.new)) }
         ensures err { IfErr result (Broke Stop.Scratch IsRequestFile (D.shown disk.old) (D.shown disk.new)) }
-        ensures stays { SameWriters self.old self.new }
+        ensures stays { SameRequests self.old self.new }
     {
         self.writers.finish(disk)?;
         Ok(())
@@ -100,7 +103,7 @@ impl Requests {
 
     /// The pages of a receiver's file, as it was finished last.
     pub fn pages(&self, receiver: u32) -> u64
-        requires { receiver < parts_in self.now }
+        requires { receiver < receivers self.now }
         ensures { result ≡ pages_of self.now receiver }
     {
         self.writers.pages()[receiver as usize]

@@ -1,7 +1,6 @@
 // What no clause says: what a reader finds in the files, and a disk that fails each call in turn.
 ghost use Rattle.std.specs.Prelude.{◌≡◌, ◌≤◌, ◌<◌, [], ◌∷◌, true, length, IfOk, OnOk};
-ghost use Rattle.px_connectors.specs.Writers.{SameWriters};
-ghost use Rattle.px_connectors.specs.Asking.{AskedOf};
+ghost use Rattle.px_connectors.specs.Asking.{AskedOf, SameRequests};
 
 use crate::{Connector, Partitioning, Requests};
 use px_core::{Disk, Stop, Vid};
@@ -36,7 +35,7 @@ fn ask_three<D: Disk>(disk: &mut D, requests: &mut Requests) -> Result<(), Stop>
     requires frame_len { requests.old.frame_len ≡ 256 }
     requires page_len { (D.shown disk.old).page_len ≡ 256 }
     ensures asked { OnOk result ((D.shown disk.old).tells ≡ true → AskedOf (D.shown disk.new) requests.new ((1, 97 ∷ []) ∷ (2, []) ∷ (2, 98 ∷ []) ∷ [])) }
-    ensures stays { SameWriters requests.old requests.new }
+    ensures stays { SameRequests requests.old requests.new }
     ensures page_len { (D.shown disk.new).page_len ≡ 256 }
 {
     requests.start(disk)?;

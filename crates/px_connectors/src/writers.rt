@@ -4,7 +4,8 @@ ghost use Rattle.px_core.specs.Partition.{partition_of};
 ghost use Rattle.px_core.specs.Shown.{Shown, Clean, Broke, Only};
 ghost use Rattle.px_frames.specs.Shares.{SamePlaces};
 ghost use Rattle.px_meaning.specs.Merge.{Pairs};
-ghost use Rattle.px_pages.specs.Page.{IsPageLen, room_of};
+ghost use Rattle.px_meaning.specs.Graph.{room_of};
+ghost use Rattle.px_pages.specs.Page.{IsPageLen};
 ghost use Rattle.px_stream.specs.Stream.{Holds};
 ghost use Rattle.px_stream.specs.Views.{WriterView};
 ghost use Rattle.px_connectors.specs.Messages.{tagged};
@@ -17,37 +18,33 @@ use px_stream::Writer;
 use std::marker::Model;
 
 /// The most partitions.
-pub(crate) const MOST_PARTS: usize = 16;
+pub const MOST_PARTS: usize = 16;
 
 /// One writer for each partition: that of partition q writes the file q behind the first. Each has a frame of a share.
 #[derive(Drop)]
-pub(crate) struct PartWriters {
-    share: Share,
+pub struct PartWriters {
     first: u32,
+    frame_len: u32,
     writers: ArrayVec<Option<Writer>, MOST_PARTS>,
     pages: [u64; MOST_PARTS],
 }
 
 impl Model for PartWriters {
-    ghost use Rattle.std.specs.Prelude.{◌≡◌, ◌+◌, length};
+    ghost use Rattle.std.specs.Prelude.{◌≡◌, length};
     ghost use Rattle.px_connectors.specs.Writers.{WritersView, AreWriters};
 
     ghost Value = { WritersView };
 
     ghost view = { λ p. record {
       first = p.first;
-      frame_len = p.share.frame_len;
-      size = p.share.size;
-      frames = length p.share.frames + length p.writers.items;
+      frame_len = p.frame_len;
       writers = p.writers.items;
       pages = p.pages;
     } };
 
     ghost invariant = { λ p. AreWriters (record {
       first = p.first;
-      frame_len = p.share.frame_len;
-      size = p.share.size;
-      frames = length p.share.frames + length p.writers.items;
+      frame_len = p.frame_len;
       writers = p.writers.items;
       pages = p.pages;
     }) × (length p.pages ≡ 16) };
@@ -55,50 +52,48 @@ impl Model for PartWriters {
 
 impl PartWriters {
     /// Writers to be started, in so many files from the first on. Each takes a frame of the share.
-    pub(crate) fn open(share: Share, parts: u32, first: u32) -> PartWriters
+    pub fn open(share: &mut Share, parts: u32, first: u32) -> PartWriters
         requires some { 1 ≤ parts }
         requires most { parts ≤ 16 }
-        requires frames { parts ≤ length share.frames }
+        requires frames { parts ≤ length share.old.frames }
         requires first { first + 16 ≤ 2 ^ 31 }
         ensures first { result.first ≡ first }
         ensures parts { parts_in result ≡ parts }
-        ensures frame_len { result.frame_len ≡ share.frame_len }
-        ensures size { result.size ≡ share.size }
-        ensures frames { result.frames ≡ length share.frames }
+        ensures frame_len { result.frame_len ≡ share.old.frame_len }
+        ensures frames { length share.new.frames + parts ≡ length share.old.frames }
+        ensures within { length share.old.frames ≤ share.old.size }
+        ensures share { SamePlaces share.old share.new }
         ensures are { AreWriters result }
     {
-        let mut share = share;
         let mut writers = ArrayVec::new();
+        let _places = share.size();
+        let frame_len = share.frame(0).len() as u32;
         for q in 0..parts {
             writers.push(Some(Writer::new(share.take(), first + q)));
         }
         PartWriters {
-            share,
             first,
+            frame_len,
             writers,
             pages: [0; MOST_PARTS],
         }
     }
 
-    /// The share, with all its frames.
-    pub(crate) fn close(self) -> Share
-        ensures frame_len { result.frame_len ≡ self.frame_len }
-        ensures size { result.size ≡ self.size }
-        ensures frames { length result.frames ≡ self.frames }
+    /// All frames go back into the share.
+    pub fn close(self, share: &mut Share)
+        requires frame_len { self.frame_len ≡ share.old.frame_len }
+        requires room { length share.old.frames + parts_in self ≤ share.old.size }
+        ensures frames { length share.new.frames ≡ length share.old.frames + parts_in self }
+        ensures share { SamePlaces share.old share.new }
     {
-        let PartWriters {
-            mut share,
-            mut writers,
-            ..
-        } = self;
+        let PartWriters { mut writers, .. } = self;
         while let Some(writer) = writers.pop() {
-            give_back(&mut share, writer);
+            give_back(share, writer);
         }
-        share
     }
 
-    /// The number of partitions.
-    pub(crate) fn parts(&self) -> u32
+    // The number of partitions.
+    fn parts(&self) -> u32
         ensures value { result ≡ parts_in self.now }
         ensures are { AreWriters self.now }
     {
@@ -114,7 +109,7 @@ impl PartWriters {
     }
 
     /// Turns to other files, from this first one on, which are to be started.
-    pub(crate) fn turn_to(&mut self, first: u32)
+    pub fn turn_to(&mut self, first: u32)
         requires { first + 16 ≤ 2 ^ 31 }
         ensures stays { SameWriters (record self.old { first = first }) self.new }
         ensures are { AreWriters self.new }
@@ -124,7 +119,7 @@ impl PartWriters {
     }
 
     /// Clears the files, and begins with empty lists.
-    pub(crate) fn start<D: Disk>(&mut self, disk: &mut D) -> Result<(), Stop>
+    pub fn start<D: Disk>(&mut self, disk: &mut D) -> Result<(), Stop>
         requires { self.old.frame_len ≡ (D.shown disk.old).page_len }
         ensures took { OnOk result ((D.shown disk.old).tells ≡ true → (tag : ℕ) → TookParts (D.shown disk.new) tag self.new []) }
         ensures ok { OnOk result (Clean (IsPartFile self.old.first) (D.shown disk.old) (D.shown disk.new)) }
@@ -156,13 +151,7 @@ impl PartWriters {
     }
 
     /// Puts a pair into the file of the partition of its vid.
-    pub(crate) fn put<D: Disk>(
-        &mut self,
-        disk: &mut D,
-        vid: Vid,
-        tag: u8,
-        body: &[u8],
-    ) -> Result<(), Stop>
+    pub fn put<D: Disk>(&mut self, disk: &mut D, vid: Vid, tag: u8, body: &[u8]) -> Result<(), Stop>
         requires page_len { self.old.frame_len ≡ (D.shown disk.old).page_len }
         requires room { 13 + length body.now ≤ room_of self.old.frame_len }
         ensures took { OnOk result ((l : Pairs) → TookParts (D.shown disk.old) tag self.old l → TookParts (D.shown disk.new) tag self.new (l ++ (vid, body.now) ∷ [])) }
@@ -178,7 +167,7 @@ impl PartWriters {
     }
 
     /// Writes the last pages. The files then hold all that was put.
-    pub(crate) fn finish<D: Disk>(&mut self, disk: &mut D) -> Result<(), Stop>
+    pub fn finish<D: Disk>(&mut self, disk: &mut D) -> Result<(), Stop>
         requires { self.old.frame_len ≡ (D.shown disk.old).page_len }
         ensures holds { OnOk result ((tag : ℕ) (l : Pairs) → TookParts (D.shown disk.old) tag self.old l → HoldParts (D.shown disk.new) tag self.old.first (parts_in self.old) self.new.pages l) }
         ensures ok { OnOk result (Clean (IsPartFile self.old.first) (D.shown disk.old) (D.shown disk.new)) }
@@ -212,7 +201,7 @@ impl PartWriters {
     }
 
     /// How many pages each file had when it was finished last.
-    pub(crate) fn pages(&self) -> [u64; MOST_PARTS]
+    pub fn pages(&self) -> [u64; MOST_PARTS]
         ensures value { result ≡ self.now.pages }
         ensures are { AreWriters self.now }
     {

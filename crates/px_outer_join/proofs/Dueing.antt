@@ -1,6 +1,7 @@
 -- The row of the lesser vid is the first of the rows.
 use Rattle.std.proofs.Common.{◌≡◌, ℕ, ◌<◌, Bool, true, false, ◌&&◌, ◌||◌, List, [], ◌∷◌, filter, nat_lt, sym, ◌∙◌, ap, refl, subst, inl, inr, arith}
-use Rattle.std.proofs.lemmas.Bool.{cases_order, and_parts, lt-ltb, le-ltb, ltb-true, eq-eqb, ne_eqb, false≢true, true≢false}
+use Rattle.std.proofs.lemmas.Bool.{cases_order, and_parts, lt-ltb, le-ltb, ltb-true, eq-eqb, ne_eqb, not-false, not-true}
+use Rattle.std.proofs.Math.Bool.{or-true, and-true}
 use Rattle.std.specs.Prelude.{Option, Some, None, not}
 use Rattle.px_meaning.specs.Attached.{attached, plain, fresh_row}
 use Rattle.px_meaning.specs.Graph.{Graph, Vertex}
@@ -41,10 +42,6 @@ awake_row v x off = rw off refl
 asleep_row : (v : ℕ) (x : Vertex) → x.halt ≡ true → is_active (vertex_row v x None) ≡ false
 asleep_row v x on = rw on refl
 
-or_true : (a : Bool) → (a || true) ≡ true
-or_true true = refl
-or_true false = refl
-
 -- a vertex that has halted, before the first message, has no row
 asleep_first : (v : ℕ) (x : Vertex) (g : Graph) (m : Pairs) → (x.halt && is_before v (first_vid m)) ≡ true → filter is_active (attached (plain ((v, x) ∷ g)) m) ≡ filter is_active (attached (plain g) m)
 asleep_first v x g [] asleep = drop_first (vertex_row v x None) (attached (plain g) []) (asleep_row v x (and_parts x.halt true asleep).0)
@@ -53,22 +50,10 @@ asleep_first v x g (e ∷ m) asleep =
     ap (filter is_active) (message_above v x g e m (ltb-true v e.0 parts.1))
     ∙ drop_first (vertex_row v x None) (attached (plain g) (e ∷ m)) (asleep_row v x parts.0)
 
-not_false : (a : Bool) → not a ≡ false → a ≡ true
-not_false true h = refl
-not_false false h = absurd (true≢false h)
-
 -- what is held is passed over where it has no row
 pub passed : (held : Bool) (v w : HeldVertex) (coming : Graph) (m : Pairs) → is_due held v (first_vid m) ≡ false → rows_of held v coming m ≡ rows_of false w coming m
 passed false v w coming m h = refl
-passed true v w coming m h = asleep_first v.vid v.vertex coming m (not_false _ h)
-
-not_true : (a : Bool) → not a ≡ true → a ≡ false
-not_true true h = absurd (false≢true h)
-not_true false h = refl
-
-and_true : (a : Bool) → (a && true) ≡ false → a ≡ false
-and_true true h = h
-and_true false h = refl
+passed true v w coming m h = asleep_first v.vid v.vertex coming m (not-false _ h)
 
 -- one message is before the vertex that is held
 due_message : (v : HeldVertex) (coming : Graph) (e : ℕ × List ℕ) (m : Pairs) → e.0 < v.vid → IsFirst (row e.0 false true) true v coming (e ∷ m) (rows_of true v coming (e ∷ m))
@@ -86,7 +71,7 @@ due_both : (v : HeldVertex) (coming : Graph) (e : ℕ × List ℕ) (m : Pairs) �
 due_both v coming e m same = record {
   first = vertex_row v.vid v.vertex (Some e.1);
   rest = rows_of false v coming m;
-  is = ap (filter is_active) (message_here v.vid v.vertex coming e m same) ∙ keep_first (vertex_row v.vid v.vertex (Some e.1)) (attached (plain coming) m) (or_true (not v.vertex.halt));
+  is = ap (filter is_active) (message_here v.vid v.vertex coming e m same) ∙ keep_first (vertex_row v.vid v.vertex (Some e.1)) (attached (plain coming) m) (or-true (not v.vertex.halt));
   vid = refl;
   vertex = refl;
   message = refl;
@@ -99,7 +84,7 @@ due_vertex v coming e m up due = record {
   rest = rows_of false v coming (e ∷ m);
   is = ap (filter is_active) (message_above v.vid v.vertex coming e m up)
       ∙ keep_first (vertex_row v.vid v.vertex None) (attached (plain coming) (e ∷ m))
-      (awake_row v.vid v.vertex (and_true v.vertex.halt (ap (λ (b : Bool). v.vertex.halt && b) (sym (lt-ltb v.vid e.0 up)) ∙ not_true _ due)));
+      (awake_row v.vid v.vertex (sym (and-true v.vertex.halt) ∙ (ap (λ (b : Bool). v.vertex.halt && b) (sym (lt-ltb v.vid e.0 up)) ∙ not-true _ due)));
   vid = refl;
   vertex = refl;
   message = refl;
@@ -110,7 +95,7 @@ due_alone : (v : HeldVertex) (coming : Graph) → is_due true v None ≡ true �
 due_alone v coming due = record {
   first = vertex_row v.vid v.vertex None;
   rest = rows_of false v coming [];
-  is = keep_first (vertex_row v.vid v.vertex None) (attached (plain coming) []) (awake_row v.vid v.vertex (and_true v.vertex.halt (not_true _ due)));
+  is = keep_first (vertex_row v.vid v.vertex None) (attached (plain coming) []) (awake_row v.vid v.vertex (sym (and-true v.vertex.halt) ∙ (not-true _ due)));
   vid = refl;
   vertex = refl;
   message = refl;

@@ -1,12 +1,12 @@
 -- The calls of a row, one after the other.
-use Rattle.std.proofs.Common.{◌≡◌, ℕ, Bool, true, false, List, [], ◌∷◌, ◌++◌, drop, filter, sym, ◌∙◌, ap, refl, subst, inl, inr, arith}
+use Rattle.std.proofs.Common.{◌≡◌, ℕ, Bool, true, false, List, [], ◌∷◌, ◌++◌, drop, filter, sym, ◌∙◌, ap, refl, subst, inl, inr}
 use Rattle.std.proofs.lemmas.Bool.{true≢false, false≢true}
 use Rattle.std.proofs.lemmas.List.{append_assoc}
 use Rattle.std.specs.Prelude.{Option, Some, None, IfSome, IfNone, ⊤, IsSomeAnd, if◌then◌else◌}
-use Rattle.px_core.specs.Shown.{Shown, Touches, NoFile, Only, Clean, Broke}
+use Rattle.px_core.specs.Shown.{Shown, NoFile, Only, Clean, Broke}
 use Rattle.px_core.specs.declared.stop.Stop.{Stop}
 use Rattle.px_core.specs.declared.stop.Stop.TheVariants.{Scratch}
-use Rattle.px_core.proofs.Pages.{touches_refl, touches_then}
+use Rattle.px_core.proofs.Steps.{clean_more, broke_more, broke_after}
 use Rattle.px_cache.specs.View.{AnyFile}
 use Rattle.px_meaning.specs.Graph.{Graph, Vertex, IsMap, fresh, vertex_or_fresh}
 use Rattle.px_meaning.specs.Merge.{Pairs}
@@ -20,7 +20,6 @@ use Rattle.px_stream.specs.declared.reader.Head.{Head}
 use Rattle.px_store.specs.Desks.{GivesNext}
 use Rattle.px_store.specs.Joins.{message_tuples, rows_in, IsInput, OneBroke, LeadsRow}
 use Rattle.px_store.specs.declared.join.Inputs.{Inputs}
-use Rattle.px_store.proofs.Joining.{touches_more}
 use Rattle.px_store.specs.declared.join.Row.{Row}
 use Rattle.px_outer_join.specs.Due.{first_vid, first_payload, key_in}
 use Rattle.px_outer_join.specs.Outer.{OuterView, rows_of, is_due, GivesRows, Beside, AtHand, AreDue, IsFirst, LeadsMessage}
@@ -151,19 +150,9 @@ pub message_none : (hm : Bool) (m : Pairs) (G : Pairs → Type 0) → hm ≡ fal
 message_none true m G off h = absurd (true≢false off)
 message_none false m G off h = h
 
-pub clean_refl : (g : Shown) → Clean AnyFile g g
-clean_refl g = record { touches = touches_refl AnyFile g; no_fault = refl }
-
-pub none_refl : (s : Shown) → Clean NoFile s s
-none_refl s = record { touches = touches_refl NoFile s; no_fault = refl }
-
 -- the scratch disk failed at the file of messages
 pub scratch_broke : (ins : Inputs) (f : ℕ) (g h s t u : Shown) (e : Stop) → f ≡ ins.msg_file → Clean AnyFile g h → Clean NoFile s t → Broke Scratch (Only f) t u e → OneBroke (IsInput ins) g h s u e
-scratch_broke ins f g h s t u e file clean none b =
-    let wide : Touches (IsInput ins) t u = record {
-      others = λ x out. b.touches.others x (λ is. out (inl (is ∙ file)));
-      tells = b.touches.tells;
-      page_len = b.touches.page_len;
-      counts = b.touches.counts;
-    } in
-    inr (record { only = b.only; touches = touches_then (IsInput ins) s t u (touches_more (IsInput ins) s t none.touches) wide; rose = omega (arith, none.no_fault, b.rose) }, clean)
+scratch_broke ins f g h s t u e file clean none b = inr (
+  broke_after Scratch (IsInput ins) s t u e (clean_more NoFile (IsInput ins) s t (λ x no. absurd no) none) (broke_more Scratch (Only f) (IsInput ins) t u e (λ x is. inl (is ∙ file)) b),
+  clean,
+)

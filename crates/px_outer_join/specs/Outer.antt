@@ -6,11 +6,11 @@ use Rattle.px_core.specs.Shown.{Shown, Only}
 use Rattle.px_core.proofs.Keeping.{same_fewer}
 use Rattle.px_frames.specs.Shares.{ShareView}
 use Rattle.px_meaning.specs.Attached.{attached, plain}
-use Rattle.px_meaning.specs.Graph.{Graph}
+use Rattle.px_meaning.specs.Graph.{Graph, room_of}
 use Rattle.px_meaning.specs.Merge.{Pairs}
 use Rattle.px_meaning.specs.Program.{Row as MeantRow}
 use Rattle.px_meaning.specs.Step.{is_active}
-use Rattle.px_pages.specs.Page.{IsPageLen, room_of}
+use Rattle.px_pages.specs.Page.{IsPageLen}
 use Rattle.px_record.specs.Held.{HeldVertex}
 use Rattle.px_stream.specs.Counts.{left}
 use Rattle.px_stream.specs.Stream.{ToGive}

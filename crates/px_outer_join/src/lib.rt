@@ -5,3 +5,6 @@ mod due;
 mod outer;
 
 pub use outer::OuterJoin;
+
+#[cfg(test)]
+mod tests;

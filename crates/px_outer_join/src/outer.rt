@@ -3,12 +3,12 @@ ghost use Rattle.std.specs.Prelude.{◌≡◌, ◌≢◌, ◌≤◌, ◌<◌, �
 ghost use Rattle.std.specs.Bool.{OnTrue};
 ghost use Rattle.px_core.specs.Shown.{Shown, NoFile, Only, Clean, Broke};
 ghost use Rattle.px_frames.specs.Buffer.{SameRoom as SameBuf};
-ghost use Rattle.px_meaning.specs.Graph.{Graph, fresh};
+ghost use Rattle.px_meaning.specs.Graph.{Graph, fresh, room_of};
 ghost use Rattle.px_meaning.specs.Merge.{Pairs};
 ghost use Rattle.px_meaning.specs.Program.{Row as MeantRow};
 ghost use Rattle.px_cache.specs.View.{AnyFile};
 ghost use Rattle.px_pages.specs.Entry.{Entry};
-ghost use Rattle.px_pages.specs.Page.{IsPageLen, room_of};
+ghost use Rattle.px_pages.specs.Page.{IsPageLen};
 ghost use Rattle.px_stream.specs.Counts.{left, SameReader};
 ghost use Rattle.px_stream.specs.Stream.{ToGive, Holds};
 ghost use Rattle.px_store.specs.Desks.{IsReady, IsDone, SameDesk, SameRoom, GivesNext};

@@ -1,9 +1,7 @@
 -- Partitions do not disturb one another.
 use Rattle.std.proofs.Common.{◌≡◌, ◌*◌, ℕ, Bool, true, false, length, sym, ◌∙◌, ap, refl, subst, arith}
 use Rattle.std.specs.Prelude.{Option, Some, None}
-use Rattle.px_core.specs.Shown.{Shown, Clean, Broke}
-use Rattle.px_core.specs.declared.stop.Stop.{Stop}
-use Rattle.px_core.specs.declared.stop.Stop.TheVariants.{Graph}
+use Rattle.px_core.specs.Shown.{Shown, Clean}
 use Rattle.px_core.proofs.Pages.{touches_refl, touches_then}
 use Rattle.px_pages.specs.Page.{IsPageLen}
 use Rattle.px_cache.specs.View.{CacheView, OthersShown, SameCache, AnyFile}
@@ -83,10 +81,6 @@ desk_then a b c x y = record {
   side_len = y.side_len ∙ x.side_len;
   full = λ full. y.full (x.full full);
 }
-
--- a call that failed, after one that did not
-pub broke_after : (a b c : Shown) (e : Stop) → Clean AnyFile a b → Broke Graph AnyFile b c e → Broke Graph AnyFile a c e
-broke_after a b c e x y = record { only = y.only; touches = touches_then AnyFile a b c x.touches y.touches; rose = omega (arith, x.no_fault, y.rose) }
 
 -- calls of the cache keep the sizes of the desk
 pub desk_by : (d : Desk) (c : CacheView) → SameCache d.cache c → SameDesk d (record d { cache = c })

@@ -11,6 +11,7 @@ use Rattle.px_meaning.specs.Step.{is_active}
 use Rattle.px_meaning.specs.Attached.{joined}
 use Rattle.px_cache.specs.View.{AnyFile}
 use Rattle.px_pages.specs.Entry.{Entry, entry}
+use Rattle.px_record.specs.Body.{body_of}
 use Rattle.px_record.specs.Held.{HeldVertex}
 use Rattle.px_stream.specs.Stream.{Holds}
 use Rattle.px_store.specs.declared.join.Row.{Row}
@@ -34,6 +35,10 @@ message_tuples m = map (λ e. entry e.0 0 e.1) m
 -- the vids of the vertices that have not voted to halt, as the tuples of a file
 abbrev pub vid_tuples : Graph → List Entry
 vid_tuples l = map (λ v. entry v 4 []) (vids (filter (λ e. not e.1.halt) l))
+
+-- vertices as the tuples of a file
+abbrev pub vertex_tuples : Graph → List Entry
+vertex_tuples l = map (λ e. entry e.0 1 (body_of e.1)) l
 
 -- the files hold these messages, of which each vid has one at most, and, for a join that looks vids up, the vids that are awake
 pub record AreInputs (probing : Bool) (s : Shown) (ins : Inputs) (l : Graph) (m : Pairs) : Type 0 where

@@ -1,13 +1,12 @@
 // A join of a store with the messages to its vids.
-ghost use Rattle.std.specs.Prelude.{◌≡◌, ◌≤◌, ◌<◌, ◌+◌, ℕ, Bool, List, length, true, false, OnOk, IfOk, IfErr, IfSome, OnSome, IsFalse};
+ghost use Rattle.std.specs.Prelude.{◌≡◌, ◌≤◌, ◌<◌, ◌+◌, ℕ, Bool, List, length, true, false, OnOk, IfOk, IfErr, IfSome, IfNone, OnSome, IsTrue, IsFalse, []};
 ghost use Rattle.std.specs.Bool.{OnTrue};
 ghost use Rattle.px_core.specs.Same.{Same};
 ghost use Rattle.px_core.specs.Shown.{Shown, NoFile, Clean};
 ghost use Rattle.px_frames.specs.Buffer.{SameRoom as SameBuf};
-ghost use Rattle.px_meaning.specs.Graph.{Graph, fresh};
+ghost use Rattle.px_meaning.specs.Graph.{Graph, fresh, room_of};
 ghost use Rattle.px_meaning.specs.Merge.{Pairs};
 ghost use Rattle.px_meaning.specs.Program.{Row as MeantRow};
-ghost use Rattle.px_pages.specs.Page.{room_of};
 ghost use Rattle.px_store.specs.Desks.{IsReady, IsDone, SameDesk, SameRoom};
 ghost use Rattle.px_store.specs.Joins.{JoinView, IsInput, AreInputs, rows_in, GivesRow, HasRows, OneBroke};
 
@@ -82,6 +81,7 @@ pub trait Join: Drop {
         ensures holds { OnOk result ((l : Graph) → St.holds store.old desk.old (GD.shown graph.old) l → St.holds store.new desk.new (GD.shown graph.new) l) }
         ensures leaves { OnTrue St.counted (St.leaves store.new ≡ St.leaves store.old) }
         ensures reads { IsFalse probing → OnTrue St.counted ((GD.shown graph.new).reads + St.unread store.new desk.new ≤ (GD.shown graph.old).reads + 64 + St.leaves store.old) }
+        ensures no_reads { IsTrue probing → OnTrue St.counted ((GD.shown graph.new).reads ≤ (GD.shown graph.old).reads) }
         ensures part { St.part store.new ≡ St.part store.old }
         ensures desk { SameDesk desk.old desk.new }
         ensures done { OnOk result (IsDone St.counted (St.part store.old) desk.old (GD.shown graph.old) desk.new (GD.shown graph.new)) }
@@ -113,6 +113,10 @@ pub trait Join: Drop {
         ensures falls { IfOk result (λ o. OnSome o (left self.new + St.left store.new < left self.old + St.left store.old)) }
         ensures leaves { OnTrue St.counted (St.leaves store.new ≡ St.leaves store.old) }
         ensures reads { IsFalse probing → OnTrue St.counted ((GD.shown graph.new).reads + St.unread store.new desk.new ≤ (GD.shown graph.old).reads + St.unread store.old desk.old) }
+        ensures few_reads { IsTrue probing → OnTrue St.counted ((GD.shown graph.new).reads ≤ (GD.shown graph.old).reads + 64) }
+        ensures no_reads { IfOk result (λ o. IfNone o (IsTrue probing → OnTrue St.counted ((GD.shown graph.new).reads ≤ (GD.shown graph.old).reads))) }
+        ensures none_left { (l : Graph) → HasRows probing (St.holds store.old desk.old (GD.shown graph.old)) (St.scans store.old desk.old (GD.shown graph.old)) (gives self.old (SD.shown scratch.old)) l []
+            → IsTrue probing → OnTrue St.counted ((GD.shown graph.new).reads ≤ (GD.shown graph.old).reads) }
         ensures part { St.part store.new ≡ St.part store.old }
         ensures desk { SameDesk desk.old desk.new }
         ensures done { OnOk result (IsDone St.counted (St.part store.old) desk.old (GD.shown graph.old) desk.new (GD.shown graph.new)) }

@@ -2,8 +2,7 @@
 ghost use Rattle.std.specs.Prelude.{◌≡◌, ◌≤◌, ◌<◌, ◌+◌, ◌++◌, [], ◌∷◌, ℕ, Bool, true, is_some, None, OnOk, IfOk, IfErr, IsTrue, IsFalse};
 ghost use Rattle.std.specs.Bool.{OnTrue};
 ghost use Rattle.px_core.specs.Shown.{Shown, Broke};
-ghost use Rattle.px_pages.specs.Page.{room_of};
-ghost use Rattle.px_meaning.specs.Graph.{Graph, IsMap, fresh, lookup, vertex_or_fresh, put as put_item, delete as delete_item};
+ghost use Rattle.px_meaning.specs.Graph.{Graph, IsMap, fresh, lookup, vertex_or_fresh, put as put_item, delete as delete_item, room_of};
 ghost use Rattle.px_record.specs.Held.{HeldVertex};
 ghost use Rattle.px_cache.specs.View.{AnyFile};
 ghost use Rattle.px_store.specs.Desks.{IsReady, IsDone, SameDesk, SameRoom, OwnKept, IsNotOwner, GivesNext, AllBelow};

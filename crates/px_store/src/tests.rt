@@ -3,8 +3,7 @@ ghost use Rattle.std.specs.Prelude.{◌≡◌, ◌≤◌, ◌<◌, ◌+◌, ◌*
 ghost use Rattle.std.specs.Bool.{OnTrue};
 ghost use Rattle.px_core.specs.Counts.{Rose};
 ghost use Rattle.px_core.specs.Shown.{Clean, Broke};
-ghost use Rattle.px_pages.specs.Page.{room_of};
-ghost use Rattle.px_meaning.specs.Graph.{Graph, vids, put as put_item};
+ghost use Rattle.px_meaning.specs.Graph.{Graph, vids, put as put_item, room_of};
 ghost use Rattle.px_cache.specs.View.{AnyFile};
 ghost use Rattle.px_store.specs.Desks.{IsReady, IsDone, SameDesk, GivesNext};
 ghost use Rattle.px_store.specs.Lists.{AreParts, HoldAll, change, found_in};

@@ -3,9 +3,8 @@ ghost use Rattle.std.specs.Prelude.{◌≡◌, ◌≤◌, ◌+◌, ◌==◌, ◌
 ghost use Rattle.std.specs.Bool.{OnTrue};
 ghost use Rattle.std.specs.List.{list_any};
 ghost use Rattle.px_core.specs.Shown.{NoFile, Clean};
-ghost use Rattle.px_meaning.specs.Graph.{Graph};
+ghost use Rattle.px_meaning.specs.Graph.{Graph, room_of};
 ghost use Rattle.px_meaning.specs.Merge.{Pairs};
-ghost use Rattle.px_pages.specs.Page.{room_of};
 ghost use Rattle.px_store.specs.Desks.{IsReady, IsDone, SameDesk};
 ghost use Rattle.px_store.specs.Joins.{IsInput, AreInputs, rows_in, OneBroke};
 

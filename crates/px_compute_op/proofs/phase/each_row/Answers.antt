@@ -1,15 +1,14 @@
-use Rattle.std.proofs.Common.{rules, arith, ◌≡◌, ◌<◌, ◌⊎◌, ℕ, List, [], ◌∷◌, ◌++◌, sym, ◌∙◌, ap, subst}
+use Rattle.std.proofs.Common.{rules, arith, ◌≡◌, ◌<◌, ◌⊎◌, ℕ, List, [], ◌∷◌, ◌++◌, length, sym, ◌∙◌, ap, subst}
 use Rattle.std.proofs.lemmas.Result.{err_from_is_err_and}
 use Rattle.px_core.specs.Same.{Apart}
 use Rattle.px_core.specs.Shown.{Only}
 use Rattle.px_core.specs.declared.stop.Stop.TheVariants.{Scratch}
 use Rattle.px_core.proofs.Keeping.{same_by_touches, same_by_none, same_then}
 use Rattle.px_core.proofs.Steps.{clean_refl}
-use Rattle.px_meaning.specs.Graph.{Graph, vertex_size}
+use Rattle.px_meaning.specs.Graph.{Graph, vertex_size, room_of}
 use Rattle.px_meaning.specs.Program.{ProgramMeaning, ProgramLaws, Row}
 use Rattle.px_meaning.specs.Step.{computed}
 use Rattle.px_pages.specs.Entry.{entry}
-use Rattle.px_pages.specs.Page.{room_of}
 use Rattle.px_program.specs.Groups.{GroupMade, IsOwn}
 use Rattle.px_program.specs.Phase.{with_all}
 use Rattle.px_program.specs.Posted.{Posted, IsPartOf, IsBeyond, made_for, with_out, nothing}
@@ -19,13 +18,16 @@ use Rattle.px_connectors.specs.Asking.{IsRequestFile, Asked}
 use Rattle.px_connectors.specs.Frames.{asked_same}
 use Rattle.px_stream.specs.Stream.{Took}
 use Rattle.px_stream.proofs.Kept.{took_same}
+use Rattle.px_store.specs.Desks.{IsDone}
 use Rattle.px_store.specs.Joins.{GivesRow, LeadsRow, HasRows, IsInput, JoinView}
+use Rattle.px_store.proofs.Apart.{done_refl, done_then, desk_refl, desk_then}
+use Rattle.px_store.proofs.Joining.{rows_map}
 use Rattle.px_global_state.specs.States.{moment_of}
 use Rattle.px_global_state.specs.declared.part.Part.{Part}
 use Rattle.px_compute_op.specs.Outs.{IsOutFile, HasTaken}
 use Rattle.px_compute_op.specs.Phase.{AreApart, HaveValidMessages, IsRunFile}
 use Rattle.px_compute_op.proofs.Apart.{apart_at, inputs_out, inputs_update, own_update, request_update, update_out}
-use Rattle.px_compute_op.proofs.Dones.{done_refl, done_then, desk_refl, desk_then, rows_stay}
+use Rattle.px_compute_op.proofs.Looking.{looked_first, looked_up, looked_past}
 use Rattle.px_compute_op.proofs.Rows.{rows_first, rows_after, rows_over, beyond_at}
 use Rattle.px_compute_op.proofs.Taking.{taken_first, taken_kept}
 use Rattle.px_compute_op.proofs.phase.each_row.Goals as goal
@@ -38,7 +40,7 @@ loop-row-init g c =
     record {
       going = λ x rows b asked. rows_first m (moment_of c.args.gs.now) (room_of s.page_len) _ _ _ rows b.gives b.valid b.updates
           (taken_first m (room_of s.page_len) (g.G.Group.took s c.args.bench.now.group m.message) (Asked s c.args.requests.now) g.K.Meant.asked_before c.no_part-part.result part_is b.group asked);
-      held = λ x rows has. (rows, has);
+      held = λ x rows has. (rows, has, λ probes. looked_first g.St.Store.counted (g.GD.Disk.shown c.args.graph.now).reads (length rows));
       clean = clean_refl (IsRunFile (g.G.Group.made c.args.bench.now.group) c.args.bench.now.updates.file) s;
       done = done_refl g.St.Store.counted (g.St.Store.part c.args.store.now) c.args.desk.now (g.GD.Disk.shown c.args.graph.now) c.requires.ready;
       few_sends = (let a = ap (λ (k : Part). k.sends) part_is in omega (arith, a));
@@ -86,7 +88,7 @@ loop-row-preserved g c =
     λ x rows has. subst (λ o. GivesRow o c.next_row.new.vertex c.next_row.new.message.bytes rows (HasRows g.J.Join.probing (g.St.Store.holds c.next_row.new.store c.next_row.new.desk d1) (g.St.Store.scans c.next_row.new.store c.next_row.new.desk d1) (g.J.Join.gives join s1) x)) c.in-Some.is (c.in_ok-row.ensures.gives x rows has) in
     let stay : (x : Graph) (rows : List Row) → HasRows g.J.Join.probing (g.St.Store.holds c.next_row.new.store c.next_row.new.desk d1) (g.St.Store.scans c.next_row.new.store c.next_row.new.desk d1) (g.J.Join.gives join s1) x rows
     → HasRows g.J.Join.probing (g.St.Store.holds c.next_row.new.store c.next_row.new.desk d1) (g.St.Store.scans c.next_row.new.store c.next_row.new.desk d1) (g.J.Join.gives join s3) x rows =
-    λ x rows has. rows_stay g.J.Join.probing _ _ (g.J.Join.gives join s1) (g.J.Join.gives join s3) x rows (λ a b r h. g.met.J.Join.gives_stays join s1 s3 a b r
+    λ x rows has. rows_map g.J.Join.probing _ _ (g.J.Join.gives join s1) (g.J.Join.gives join s3) x rows (λ a b r h. g.met.J.Join.gives_stays join s1 s3 a b r
     (same_then (IsInput ins) s1 s2 s3 (same_by_touches (IsInput ins) (IsOutFile made) s1 s2 (inputs_out made u ins apart) out) (same_by_touches (IsInput ins) (Only u) s2 s3 (inputs_update made u ins apart) put)) h) has in
     record {
       going = λ x rows b asked.
@@ -115,9 +117,16 @@ loop-row-preserved g c =
           let fits = c.in_ok-compute_in.ensures.fits in
           let same : c.compute_in.new.vertex.room ≡ room = c.compute_in.ensures.record_stays.room ∙ room_is in
           omega (arith, size, fits, same));
-      held = λ x rows has. (let rest = i.held x rows has in let lead = gives x rest.0 rest.1 in (lead.rest, stay x lead.rest lead.after));
+      held = λ x rows has.
+          (let rest = i.held x rows has in
+          let lead = gives x rest.0 rest.1 in (
+            lead.rest,
+            stay x lead.rest lead.after,
+            λ probes. looked_up _ _ _ _ _ rest.0 lead.first lead.rest lead.is (rest.2 probes) (c.next_row.ensures.few_reads probes),
+          ));
       clean = search rules;
-      done = done_then g.St.Store.counted _ _ c.args.desk.now c.loop-row.desk c.next_row.new.desk (g.GD.Disk.shown c.args.graph.now) d0 d1 i.part i.done c.in_ok-row.ensures.done;
+      done = done_then g.St.Store.counted (g.St.Store.part c.args.store.now) c.args.desk.now c.loop-row.desk c.next_row.new.desk (g.GD.Disk.shown c.args.graph.now) d0 d1 i.done
+          (subst (λ (q : ℕ). IsDone g.St.Store.counted q c.loop-row.desk d0 c.next_row.new.desk d1) i.part c.in_ok-row.ensures.done);
       few_sends = search rules;
       few_requests = search rules;
       small = search rules;
@@ -214,3 +223,37 @@ returns-clause-holds g c = λ x rows has.
     let rest = i.held x rows has in
     let over = subst (λ o. GivesRow o c.next_row.new.vertex c.next_row.new.message.bytes rest.0 (HasRows g.J.Join.probing (g.St.Store.holds c.next_row.new.store c.next_row.new.desk d1) (g.St.Store.scans c.next_row.new.store c.next_row.new.desk d1) (g.J.Join.gives c.next_row.new.self s1) x)) c.in_default.is (c.in_ok-row.ensures.gives x rest.0 rest.1) in
     over.1.held
+
+-- no row was given: none is left, or a call failed
+pub returns-clause-few_reads : goal.returns-clause-few_reads
+returns-clause-few_reads g c = λ x rows has probes.
+    let s0 = g.SD.Disk.shown c.loop-row.scratch in
+    let d0 = g.GD.Disk.shown c.loop-row.graph in
+    let rest = c.loop-row.invariant.held x rows has in
+    looked_past _ _ _ _ _ (HasRows g.J.Join.probing (g.St.Store.holds c.loop-row.store c.loop-row.desk d0) (g.St.Store.scans c.loop-row.store c.loop-row.desk d0) (g.J.Join.gives c.loop-row.join s0) x)
+    rest.0 rest.1 (rest.2 probes) (λ none. c.next_row.ensures.none_left x none probes) (c.next_row.ensures.few_reads probes)
+
+pub returns-in_err-row-clause-few_reads : goal.returns-in_err-row-clause-few_reads
+returns-in_err-row-clause-few_reads g c = λ x rows has probes.
+    let s0 = g.SD.Disk.shown c.loop-row.scratch in
+    let d0 = g.GD.Disk.shown c.loop-row.graph in
+    let rest = c.loop-row.invariant.held x rows has in
+    looked_past _ _ _ _ _ (HasRows g.J.Join.probing (g.St.Store.holds c.loop-row.store c.loop-row.desk d0) (g.St.Store.scans c.loop-row.store c.loop-row.desk d0) (g.J.Join.gives c.loop-row.join s0) x)
+    rest.0 rest.1 (rest.2 probes) (λ none. c.next_row.ensures.none_left x none probes) (c.next_row.ensures.few_reads probes)
+
+-- a row was given, and then a call failed
+pub returns-in_err-compute_in-clause-few_reads : goal.returns-in_err-compute_in-clause-few_reads
+returns-in_err-compute_in-clause-few_reads g c = λ x rows has probes.
+    let s0 = g.SD.Disk.shown c.loop-row.scratch in
+    let d0 = g.GD.Disk.shown c.loop-row.graph in
+    let rest = c.loop-row.invariant.held x rows has in
+    looked_past _ _ _ _ _ (HasRows g.J.Join.probing (g.St.Store.holds c.loop-row.store c.loop-row.desk d0) (g.St.Store.scans c.loop-row.store c.loop-row.desk d0) (g.J.Join.gives c.loop-row.join s0) x)
+    rest.0 rest.1 (rest.2 probes) (λ none. c.next_row.ensures.none_left x none probes) (c.next_row.ensures.few_reads probes)
+
+pub returns-in_err-put-clause-few_reads : goal.returns-in_err-put-clause-few_reads
+returns-in_err-put-clause-few_reads g c = λ x rows has probes.
+    let s0 = g.SD.Disk.shown c.loop-row.scratch in
+    let d0 = g.GD.Disk.shown c.loop-row.graph in
+    let rest = c.loop-row.invariant.held x rows has in
+    looked_past _ _ _ _ _ (HasRows g.J.Join.probing (g.St.Store.holds c.loop-row.store c.loop-row.desk d0) (g.St.Store.scans c.loop-row.store c.loop-row.desk d0) (g.J.Join.gives c.loop-row.join s0) x)
+    rest.0 rest.1 (rest.2 probes) (λ none. c.next_row.ensures.none_left x none probes) (c.next_row.ensures.few_reads probes)

@@ -1,14 +1,12 @@
-use Rattle.std.proofs.Common.{◌≡◌, ◌≤◌, ◌<◌, ◌+◌, ◌^◌, IsTrue, IsFalse}
+use Rattle.std.proofs.Common.{◌≡◌, ◌≤◌, ◌<◌, ◌+◌, ◌*◌, ◌^◌, length, IsTrue, IsFalse}
 use Rattle.std.specs.Prelude.{List}
 use Rattle.std.specs.Bool.{OnTrue}
 use Rattle.px_core.specs.Shown.{Clean}
-use Rattle.px_meaning.specs.Graph.{Graph}
+use Rattle.px_meaning.specs.Graph.{Graph, room_of}
 use Rattle.px_meaning.specs.Merge.{Pairs}
 use Rattle.px_meaning.specs.Program.{Row}
-use Rattle.px_pages.specs.Page.{room_of}
 use Rattle.px_stream.specs.Stream.{Took}
-use Rattle.px_connectors.specs.Asking.{Asked}
-use Rattle.px_connectors.specs.Writers.{SameWriters}
+use Rattle.px_connectors.specs.Asking.{SameRequests, Asked}
 use Rattle.px_store.specs.Desks.{IsDone, SameDesk}
 use Rattle.px_store.specs.Joins.{HasRows}
 use Rattle.px_global_state.specs.States.{moment_of}
@@ -40,7 +38,8 @@ invariant-loop-row g l =
           → RowsAt m (moment_of l.gs) room (HasRows g.J.Join.probing (g.St.Store.holds l.store l.desk d) (g.St.Store.scans l.store l.desk d) (g.J.Join.gives l.join s) x) (Took s l.bench.updates)
           (HasTaken m room (g.G.Group.took s l.bench.group m.message) (Asked s l.requests) g.K.Meant.asked_before l.part) rows;
       held : (x : Graph) (rows : List Row) → HasRows g.J.Join.probing (g.St.Store.holds l.fn.store l.fn.desk d0) (g.St.Store.scans l.fn.store l.fn.desk d0) (g.J.Join.gives l.fn.join s0) x rows
-          → (rest : List Row) × HasRows g.J.Join.probing (g.St.Store.holds l.store l.desk d) (g.St.Store.scans l.store l.desk d) (g.J.Join.gives l.join s) x rest;
+          → (rest : List Row) × HasRows g.J.Join.probing (g.St.Store.holds l.store l.desk d) (g.St.Store.scans l.store l.desk d) (g.J.Join.gives l.join s) x rest
+          × (IsTrue g.J.Join.probing → OnTrue g.St.Store.counted (d.reads + 64 * length rest ≤ d0.reads + 64 * length rows));
       clean : Clean (IsRunFile (g.G.Group.made l.fn.bench.group) l.fn.bench.updates.file) s0 s;
       done : IsDone g.St.Store.counted (g.St.Store.part l.fn.store) l.fn.desk d0 l.desk d;
       few_sends : l.part.sends ≤ 2 ^ 40;
@@ -53,7 +52,7 @@ invariant-loop-row g l =
       part : g.St.Store.part l.store ≡ g.St.Store.part l.fn.store;
       desk : SameDesk l.fn.desk l.desk;
       join : g.J.Join.view l.join ≡ g.J.Join.view l.fn.join;
-      requests : SameWriters l.fn.requests l.requests;
+      requests : SameRequests l.fn.requests l.requests;
       bench : SameBench g.G.Group.made l.fn.bench l.bench;
     }
 

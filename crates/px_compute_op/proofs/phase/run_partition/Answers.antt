@@ -7,14 +7,15 @@ use Rattle.px_core.proofs.Keeping.{same_by_touches}
 use Rattle.px_meaning.specs.Merge.{MergeRule, grouped}
 use Rattle.px_meaning.specs.Step.{computed, has_wide_fold}
 use Rattle.px_meaning.proofs.Grouping.{IsMap-grouped}
-use Rattle.px_pages.specs.Page.{room_of}
+use Rattle.px_meaning.specs.Graph.{room_of}
 use Rattle.px_program.specs.Groups.{GroupMade, IsOwn, room_in}
 use Rattle.px_connectors.specs.Asking.{IsRequestFile}
 use Rattle.px_connectors.specs.Frames.{asked_same}
 use Rattle.px_connectors.specs.Views.{ConnectorView, IsSenderFile}
 use Rattle.px_stream.proofs.Kept.{took_same}
 use Rattle.px_global_state.specs.States.{moment_of}
-use Rattle.px_compute_op.specs.Phase.{AreApart, IsConnectorFile, IsRunFile, OwnOrSent, vertex_tuples}
+use Rattle.px_store.specs.Joins.{vertex_tuples}
+use Rattle.px_compute_op.specs.Phase.{AreApart, IsConnectorFile, IsRunFile, OwnOrSent}
 use Rattle.px_compute_op.proofs.Apart.{apart_at, sender_own, sender_run, sender_update, update_own, update_moved, update_sender, request_own, request_moved, request_sender, request_update}
 use Rattle.px_compute_op.proofs.Rows.{within_limits}
 use Rattle.px_compute_op.proofs.phase.run_partition.Goals as goal

@@ -1,7 +1,6 @@
 use Rattle.std.proofs.Common.{◌≡◌, ◌≤◌, ◌+◌, ◌*◌, take}
 use Rattle.std.specs.Bool.{OnTrue}
-use Rattle.px_pages.specs.Page.{room_of}
-use Rattle.px_meaning.specs.Graph.{Graph}
+use Rattle.px_meaning.specs.Graph.{Graph, room_of}
 use Rattle.px_store.specs.Desks.{IsDone, SameDesk}
 use Rattle.px_store.specs.Lists.{found_in}
 use Rattle.px_store.proofs.tests.probe_all.Given as goal

@@ -1,9 +1,8 @@
 use Rattle.std.proofs.Common.{◌≡◌, ◌≤◌, ◌+◌, ◌++◌}
 use Rattle.std.specs.Bool.{OnTrue}
 use Rattle.px_core.specs.Shown.{Clean}
-use Rattle.px_pages.specs.Page.{room_of}
 use Rattle.px_cache.specs.View.{AnyFile}
-use Rattle.px_meaning.specs.Graph.{Graph, vids}
+use Rattle.px_meaning.specs.Graph.{Graph, vids, room_of}
 use Rattle.px_store.specs.Desks.{IsReady}
 use Rattle.px_store.proofs.tests.scan.Given as goal
 

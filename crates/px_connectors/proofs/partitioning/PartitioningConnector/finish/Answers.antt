@@ -10,4 +10,4 @@ returns-clause-sent g c = λ p l sends.
     let sender = c.self.inside.sender in
     let row : sender < length c.self.inside.pages = omega (arith, c.self.invariant.0, c.self.invariant.1, c.self.invariant.3) in
     rw c.pages.ensures.value
-    (sent_now v c.finish.new.self sender p c.self.inside.pages _ l before.is c.self.invariant.0 row c.self.invariant.2 c.finish.ensures.stays.parts (c.in_ok-finish.ensures.holds 0 l before.took))
+    (sent_now _ _ v c.finish.new.self sender p c.self.inside.pages _ l before.is c.self.invariant.0 row c.self.invariant.2 c.finish.ensures.stays.parts (c.in_ok-finish.ensures.holds 0 l before.took))

@@ -8,16 +8,16 @@ pub give_back-requires-clause-some : goal.give_back-requires-clause-some
 give_back-requires-clause-some c =
     let i = c.loop-writer.invariant in
     let all = each_last (λ q w. w.page_len ≡ c.args.self.frame_len) c.loop-writer.writers.items c.pop.new.self.items c.in-Some.writer c.in-Some.ensures.items i.each in
-    subst (λ (n : ℕ). OfWriter (λ w. w.page_len ≡ n) c.in-Some.writer) (sym i.frame_len) all
+    subst (λ (n : ℕ). OfWriter (λ w. w.page_len ≡ n) c.in-Some.writer) (i.len ∙ sym i.share.frame_len) all
 
 pub loop-writer-preserved : goal.loop-writer-preserved
 loop-writer-preserved c =
     let i = c.loop-writer.invariant in
     let items = c.in-Some.ensures.items in
     record {
-      size = c.give_back.ensures.stays.size ∙ i.size;
-      frame_len = c.give_back.ensures.stays.frame_len ∙ i.frame_len;
+      share = record { size = c.give_back.ensures.stays.size ∙ i.share.size; frame_len = c.give_back.ensures.stays.frame_len ∙ i.share.frame_len };
       frames = omega (arith, i.frames, ap length items, length-append c.pop.new.self.items (c.in-Some.writer ∷ []), c.give_back.ensures.len);
       within = i.within;
+      len = i.len;
       each = each_init (λ q w. w.page_len ≡ c.args.self.frame_len) c.loop-writer.writers.items c.pop.new.self.items c.in-Some.writer items i.each;
     }

@@ -1,14 +1,15 @@
 use Rattle.std.proofs.Common.{◌≡◌, ◌+◌, ◌≤◌, length}
-use Rattle.px_connectors.specs.Writers.{EachWriter}
+use Rattle.px_frames.specs.Shares.{SamePlaces}
+use Rattle.px_connectors.specs.Writers.{EachWriter, parts_in}
 use Rattle.px_connectors.proofs.writers.PartWriters.close.Given as goal
 
 abbrev pub invariant-loop-writer : goal.invariant-loop-writer
 invariant-loop-writer l =
     record {
-      size : l.share.size ≡ l.fn.self.size;
-      frame_len : l.share.frame_len ≡ l.fn.self.frame_len;
-      frames : length l.share.frames + length l.writers.items ≡ l.fn.self.frames;
-      within : l.fn.self.frames ≤ l.fn.self.size;
+      share : SamePlaces l.fn.share l.share;
+      frames : length l.share.frames + length l.writers.items ≡ length l.fn.share.frames + parts_in l.fn.self;
+      within : length l.fn.share.frames + parts_in l.fn.self ≤ l.fn.share.size;
+      len : l.fn.self.frame_len ≡ l.fn.share.frame_len;
       each : EachWriter (λ q w. w.page_len ≡ l.fn.self.frame_len) l.writers.items;
     }
 

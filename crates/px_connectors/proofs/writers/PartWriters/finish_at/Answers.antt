@@ -11,7 +11,7 @@ invariant_of-self g c =
     let lt : c.args.q < length ws = subst (λ (v : WritersView). c.args.q < parts_in v) (sym c.self.view_is) c.requires.part in
     let value = c.deref_mut.ensures.value in
     rw (set_back ws c.deref_mut.result.now c.args.q c.finish_in.new.writer value)
-    (are_set _ _ _ _ _ _ ws c.args.q _ c.finish_in.new.writer lt (writer_is ws c.deref_mut.result.now c.args.q _ value lt) c.finish_in.ensures.stays c.self.invariant.0, c.self.invariant.1)
+    (are_set _ _ _ _ ws c.args.q _ c.finish_in.new.writer lt (writer_is ws c.deref_mut.result.now c.args.q _ value lt) c.finish_in.ensures.stays c.self.invariant.0, c.self.invariant.1)
 
 pub returns-in_err-pages-clause-err : goal.returns-in_err-pages-clause-err
 returns-in_err-pages-clause-err g c =
@@ -28,7 +28,7 @@ returns-in_err-pages-clause-are g c =
     let lt : c.args.q < length ws = subst (λ (v : WritersView). c.args.q < parts_in v) (sym c.self.view_is) c.requires.part in
     let value = c.deref_mut.ensures.value in
     rw (set_back ws c.deref_mut.result.now c.args.q c.finish_in.new.writer value)
-    (are_set _ _ _ _ _ _ ws c.args.q _ c.finish_in.new.writer lt (writer_is ws c.deref_mut.result.now c.args.q _ value lt) c.finish_in.ensures.stays c.self.invariant.0)
+    (are_set _ _ _ _ ws c.args.q _ c.finish_in.new.writer lt (writer_is ws c.deref_mut.result.now c.args.q _ value lt) c.finish_in.ensures.stays c.self.invariant.0)
 
 pub invariant_of-self-2 : goal.invariant_of-self-2
 invariant_of-self-2 g c =
@@ -36,7 +36,7 @@ invariant_of-self-2 g c =
     let lt : c.args.q < length ws = subst (λ (v : WritersView). c.args.q < parts_in v) (sym c.self.view_is) c.requires.part in
     let value = c.deref_mut.ensures.value in
     rw (set_back ws c.deref_mut.result.now c.args.q c.finish_in.new.writer value)
-    (are_set _ _ _ _ _ _ ws c.args.q _ c.finish_in.new.writer lt (writer_is ws c.deref_mut.result.now c.args.q _ value lt) c.finish_in.ensures.stays c.self.invariant.0, length-set _ _ _ ∙ c.self.invariant.1)
+    (are_set _ _ _ _ ws c.args.q _ c.finish_in.new.writer lt (writer_is ws c.deref_mut.result.now c.args.q _ value lt) c.finish_in.ensures.stays c.self.invariant.0, length-set _ _ _ ∙ c.self.invariant.1)
 
 pub returns-clause-ok : goal.returns-clause-ok
 returns-clause-ok g c =
@@ -51,4 +51,4 @@ returns-clause-are g c =
     let lt : c.args.q < length ws = subst (λ (v : WritersView). c.args.q < parts_in v) (sym c.self.view_is) c.requires.part in
     let value = c.deref_mut.ensures.value in
     rw (set_back ws c.deref_mut.result.now c.args.q c.finish_in.new.writer value)
-    (are_set _ _ _ _ _ _ ws c.args.q _ c.finish_in.new.writer lt (writer_is ws c.deref_mut.result.now c.args.q _ value lt) c.finish_in.ensures.stays c.self.invariant.0)
+    (are_set _ _ _ _ ws c.args.q _ c.finish_in.new.writer lt (writer_is ws c.deref_mut.result.now c.args.q _ value lt) c.finish_in.ensures.stays c.self.invariant.0)

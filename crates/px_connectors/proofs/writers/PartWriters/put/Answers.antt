@@ -14,7 +14,7 @@ invariant_of-self g c =
     let value = c.deref_mut.ensures.value in
     let at = writer_is ws c.deref_mut.result.now c.part-part.result _ value lt in
     rw (set_back ws c.deref_mut.result.now c.part-part.result c.put_in.new.writer value)
-    (are_set _ _ _ _ _ _ ws c.part-part.result _ c.put_in.new.writer lt at c.put_in.ensures.stays c.self.invariant.0, c.self.invariant.1)
+    (are_set _ _ _ _ ws c.part-part.result _ c.put_in.new.writer lt at c.put_in.ensures.stays c.self.invariant.0, c.self.invariant.1)
 
 pub returns-in_err-put_in-clause-err : goal.returns-in_err-put_in-clause-err
 returns-in_err-put_in-clause-err g c =
@@ -34,7 +34,7 @@ returns-in_err-put_in-clause-are g c =
     let value = c.deref_mut.ensures.value in
     let at = writer_is ws c.deref_mut.result.now c.part-part.result _ value lt in
     rw (set_back ws c.deref_mut.result.now c.part-part.result c.put_in.new.writer value)
-    (are_set _ _ _ _ _ _ ws c.part-part.result _ c.put_in.new.writer lt at c.put_in.ensures.stays c.self.invariant.0)
+    (are_set _ _ _ _ ws c.part-part.result _ c.put_in.new.writer lt at c.put_in.ensures.stays c.self.invariant.0)
 
 pub invariant_of-self-2 : goal.invariant_of-self-2
 invariant_of-self-2 g c =
@@ -43,7 +43,7 @@ invariant_of-self-2 g c =
     let value = c.deref_mut.ensures.value in
     let at = writer_is ws c.deref_mut.result.now c.part-part.result _ value lt in
     rw (set_back ws c.deref_mut.result.now c.part-part.result c.put_in.new.writer value)
-    (are_set _ _ _ _ _ _ ws c.part-part.result _ c.put_in.new.writer lt at c.put_in.ensures.stays c.self.invariant.0, c.self.invariant.1)
+    (are_set _ _ _ _ ws c.part-part.result _ c.put_in.new.writer lt at c.put_in.ensures.stays c.self.invariant.0, c.self.invariant.1)
 
 pub returns-clause-took : goal.returns-clause-took
 returns-clause-took g c = λ l took.
@@ -53,10 +53,10 @@ returns-clause-took g c = λ l took.
     let at = writer_is ws c.deref_mut.result.now c.part-part.result _ value lt in
     let is : partition_of c.args.vid (length ws) ≡ c.part-part.result = sym (c.part-part.ensures.value ∙ ap (λ (v : WritersView). partition_of c.args.vid (parts_in v)) (sym c.self.view_is)) in
     let touches = (clean_at _ _ c.part-part.result ws _ _ _ c.self.invariant.0.each lt at c.in_ok-put_in.ensures.ok).touches in
-    let are = are_set _ _ _ _ _ c.self.inside.pages ws c.part-part.result _ c.put_in.new.writer lt at c.put_in.ensures.stays c.self.invariant.0 in
+    let are = are_set _ _ _ c.self.inside.pages ws c.part-part.result _ c.put_in.new.writer lt at c.put_in.ensures.stays c.self.invariant.0 in
     let before = subst (λ (v : WritersView). TookParts (g.D.Disk.shown c.args.disk.now) c.args.tag v l) (sym c.self.view_is) took in
     rw (set_back ws c.deref_mut.result.now c.part-part.result c.put_in.new.writer value)
-    (took_put c.args.tag _ _ _ _ _ ws c.part-part.result c.args.vid _ c.put_in.new.writer _ _ l c.args.body.now lt at is touches are c.in_ok-put_in.ensures.took before)
+    (took_put c.args.tag _ _ _ ws c.part-part.result c.args.vid _ c.put_in.new.writer _ _ l c.args.body.now lt at is touches are c.in_ok-put_in.ensures.took before)
 
 pub returns-clause-ok : goal.returns-clause-ok
 returns-clause-ok g c =
@@ -74,4 +74,4 @@ returns-clause-are g c =
     let value = c.deref_mut.ensures.value in
     let at = writer_is ws c.deref_mut.result.now c.part-part.result _ value lt in
     rw (set_back ws c.deref_mut.result.now c.part-part.result c.put_in.new.writer value)
-    (are_set _ _ _ _ _ _ ws c.part-part.result _ c.put_in.new.writer lt at c.put_in.ensures.stays c.self.invariant.0)
+    (are_set _ _ _ _ ws c.part-part.result _ c.put_in.new.writer lt at c.put_in.ensures.stays c.self.invariant.0)

@@ -13,7 +13,7 @@ invariant_of-self g c =
     let value = c.deref_mut.ensures.value in
     let at = writer_is ws c.deref_mut.result.now c.args.q _ value lt in
     rw (set_back ws c.deref_mut.result.now c.args.q c.start_in.new.writer value)
-    (are_set _ _ _ _ _ _ ws c.args.q _ c.start_in.new.writer lt at c.start_in.ensures.stays c.self.invariant.0, c.self.invariant.1)
+    (are_set _ _ _ _ ws c.args.q _ c.start_in.new.writer lt at c.start_in.ensures.stays c.self.invariant.0, c.self.invariant.1)
 
 pub returns-in_err-start_in-clause-err : goal.returns-in_err-start_in-clause-err
 returns-in_err-start_in-clause-err g c =
@@ -32,7 +32,7 @@ returns-in_err-start_in-clause-are g c =
     let value = c.deref_mut.ensures.value in
     let at = writer_is ws c.deref_mut.result.now c.args.q _ value lt in
     rw (set_back ws c.deref_mut.result.now c.args.q c.start_in.new.writer value)
-    (are_set _ _ _ _ _ _ ws c.args.q _ c.start_in.new.writer lt at c.start_in.ensures.stays c.self.invariant.0)
+    (are_set _ _ _ _ ws c.args.q _ c.start_in.new.writer lt at c.start_in.ensures.stays c.self.invariant.0)
 
 pub invariant_of-self-2 : goal.invariant_of-self-2
 invariant_of-self-2 g c =
@@ -41,7 +41,7 @@ invariant_of-self-2 g c =
     let value = c.deref_mut.ensures.value in
     let at = writer_is ws c.deref_mut.result.now c.args.q _ value lt in
     rw (set_back ws c.deref_mut.result.now c.args.q c.start_in.new.writer value)
-    (are_set _ _ _ _ _ _ ws c.args.q _ c.start_in.new.writer lt at c.start_in.ensures.stays c.self.invariant.0, c.self.invariant.1)
+    (are_set _ _ _ _ ws c.args.q _ c.start_in.new.writer lt at c.start_in.ensures.stays c.self.invariant.0, c.self.invariant.1)
 
 pub returns-clause-took : goal.returns-clause-took
 returns-clause-took g c = λ tells tag.
@@ -66,4 +66,4 @@ returns-clause-are g c =
     let value = c.deref_mut.ensures.value in
     let at = writer_is ws c.deref_mut.result.now c.args.q _ value lt in
     rw (set_back ws c.deref_mut.result.now c.args.q c.start_in.new.writer value)
-    (are_set _ _ _ _ _ _ ws c.args.q _ c.start_in.new.writer lt at c.start_in.ensures.stays c.self.invariant.0)
+    (are_set _ _ _ _ ws c.args.q _ c.start_in.new.writer lt at c.start_in.ensures.stays c.self.invariant.0)

@@ -10,7 +10,7 @@ invariant_of-self c =
     let value = c.deref_mut.ensures.value in
     let long : length c.turn_all.new.writers ≡ length ws = c.turn_all.ensures.len ∙ ap length value in
     rw (refill_same ws c.turn_all.new.writers long)
-    (are_turned _ _ _ _ _ _ ws c.turn_all.new.writers long c.requires (λ each. c.turn_all.ensures.each c.self.inside.first c.self.inside.share.frame_len (subst (EachWriter (WritesPart c.self.inside.first c.self.inside.share.frame_len)) (sym value) each)) c.self.invariant.0, c.self.invariant.1)
+    (are_turned _ _ _ _ ws c.turn_all.new.writers long c.requires (λ each. c.turn_all.ensures.each c.self.inside.first c.self.inside.frame_len (subst (EachWriter (WritesPart c.self.inside.first c.self.inside.frame_len)) (sym value) each)) c.self.invariant.0, c.self.invariant.1)
 
 pub returns-clause-are : goal.returns-clause-are
 returns-clause-are c =
@@ -18,4 +18,4 @@ returns-clause-are c =
     let value = c.deref_mut.ensures.value in
     let long : length c.turn_all.new.writers ≡ length ws = c.turn_all.ensures.len ∙ ap length value in
     rw (refill_same ws c.turn_all.new.writers long)
-    (are_turned _ _ _ _ _ _ ws c.turn_all.new.writers long c.requires (λ each. c.turn_all.ensures.each c.self.inside.first c.self.inside.share.frame_len (subst (EachWriter (WritesPart c.self.inside.first c.self.inside.share.frame_len)) (sym value) each)) c.self.invariant.0)
+    (are_turned _ _ _ _ ws c.turn_all.new.writers long c.requires (λ each. c.turn_all.ensures.each c.self.inside.first c.self.inside.frame_len (subst (EachWriter (WritesPart c.self.inside.first c.self.inside.frame_len)) (sym value) each)) c.self.invariant.0)

@@ -1,6 +1,9 @@
 use Rattle.std.proofs.Common.{◌≡◌, ◌∙◌, ℕ, sym, ap, subst, refl}
 use Rattle.std.proofs.lemmas.Result.{err_from_is_err_and}
 use Rattle.std.specs.Prelude.{Option}
+use Rattle.px_core.specs.Shown.{NoFile}
+use Rattle.px_core.proofs.Steps.{clean_refl}
+use Rattle.px_cache.specs.View.{AnyFile}
 use Rattle.px_meaning.specs.Graph.{Graph}
 use Rattle.px_stream.specs.Stream.{ToGive}
 use Rattle.px_stream.specs.Views.{ReaderView}
@@ -8,14 +11,14 @@ use Rattle.px_store.specs.Joins.{message_tuples}
 use Rattle.px_outer_join.specs.Due.{due_row, first_vid}
 use Rattle.px_outer_join.specs.Outer.{OuterView, GivesRows, Beside}
 use Rattle.px_outer_join.proofs.Dueing.{due_first}
-use Rattle.px_outer_join.proofs.Taking.{first_of, none_of, leads_map, scratch_broke, clean_refl, none_refl}
+use Rattle.px_outer_join.proofs.Taking.{first_of, none_of, leads_map, scratch_broke}
 use Rattle.px_outer_join.proofs.outer.OuterJoinJoin.next_row.Goals as goal
 
 pub returns-in_err-next-clause-err : goal.returns-in_err-next-clause-err
 returns-in_err-next-clause-err g c =
     let is = err_from_is_err_and c.from_residual.result c.from_residual.ensures.1 in
     let e : is.0 ≡ c.in_err-next.field-0.0 = cc in
-    rw (is.1, e) (scratch_broke c.args.self.now.inputs c.args.self.now.messages.file _ _ _ _ _ _ c.message_vid.ensures.file (clean_refl _) (none_refl _) c.in_err-next.ensures.err)
+    rw (is.1, e) (scratch_broke c.args.self.now.inputs c.args.self.now.messages.file _ _ _ _ _ _ c.message_vid.ensures.file (clean_refl AnyFile _) (clean_refl NoFile _) c.in_err-next.ensures.err)
 
 pub returns-in_err-take_row-in-Some-clause-err : goal.returns-in_err-take_row-in-Some-clause-err
 returns-in_err-take_row-in-Some-clause-err g c =

@@ -2,8 +2,7 @@ use Rattle.std.proofs.Common.{◌≡◌, ◌≤◌, ◌+◌, ◌||◌, ◌==◌,
 use Rattle.std.specs.Bool.{OnTrue}
 use Rattle.std.specs.List.{list_any}
 use Rattle.px_core.specs.Shown.{NoFile, Clean}
-use Rattle.px_pages.specs.Page.{room_of}
-use Rattle.px_meaning.specs.Graph.{Graph}
+use Rattle.px_meaning.specs.Graph.{Graph, room_of}
 use Rattle.px_meaning.specs.Merge.{Pairs}
 use Rattle.px_meaning.specs.Program.{Row as MeantRow}
 use Rattle.px_store.specs.Desks.{IsDone, SameDesk}
