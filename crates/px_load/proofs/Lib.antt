@@ -1,0 +1,12 @@
+pub mod Places
+pub mod Ordering
+pub mod ReadingSteps
+pub mod Stopping
+pub mod PartingSteps
+pub mod FillingSteps
+pub mod LoadingSteps
+pub mod DumpStopping
+pub mod FramedSteps
+pub mod ScanningSteps
+pub mod HeadsSteps
+pub mod PrintingSteps

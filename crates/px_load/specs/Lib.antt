@@ -1,0 +1,11 @@
+pub mod Stops
+pub mod Frames
+pub mod Held
+pub mod Reading
+pub mod Filling
+pub mod Loading
+pub mod Framed
+pub mod Dumping
+pub mod Scanning
+pub mod Heads
+pub mod Printing
