@@ -1,4 +1,4 @@
-// Pairs are grouped by their vids, within 24 frames.
+// Pairs are grouped by their vids.
 ghost use Rattle.std.specs.Prelude.{◌≡◌, ◌≤◌, ◌+◌, IsTrue, OnOk, IfOk};
 ghost use Rattle.px_program.specs.Groups.{room_in};
 
@@ -62,36 +62,38 @@ fn sum<D: Disk, G: Group>(group: &mut G, disk: &mut D, into: &mut Buf) -> Result
     Ok(tally)
 }
 
-// Groups so many pairs.
-fn group_all<D: Disk, G: Group>(
+/// Seals a group, and sums what it gives.
+pub fn fold_all<D: Disk, G: Group>(
     group: &mut G,
     disk: &mut D,
     into: &mut Buf,
-    count: u64,
 ) -> Result<Tally, Stop>
     requires page_len { (G.made group.old).frame_len ≡ (D.shown disk.old).page_len }
     requires open { IsTrue (G.is_open group.old) }
-    requires room { 21 ≤ room_in (G.made group.old) }
     requires limit { 13 + into.old.limit ≡ room_in (G.made group.old) }
 {
-    add(group, disk, count, count.div_ceil(10))?;
     group.seal(disk, &Lesser)?;
     sum(group, disk, into)
 }
 
-// A group in the memory of 24 frames.
-fn group_of<G: Group>(alloc: Global) -> Result<G, AllocError>
+/// A group over so many frames and entries.
+pub fn group_of<G: Group>(alloc: Global, frames: u32, entries: u32) -> Result<G, AllocError>
+    requires frames { 6 ≤ frames }
+    requires few { frames ≤ 65536 }
+    requires entries { 32 ≤ entries }
     ensures open { IfOk result (λ group. IsTrue (G.is_open group)) }
     ensures frame_len { IfOk result (λ group. (G.made group).frame_len ≡ 262144) }
+    ensures first { IfOk result (λ group. (G.made group).first ≡ 2) }
+    ensures second { IfOk result (λ group. (G.made group).second ≡ 3) }
 {
-    let mut bank = Bank::open(alloc, PAGE, &[FRAMES], ENTRIES)?;
+    let mut bank = Bank::open(alloc, PAGE, &[frames], entries)?;
     let share = bank.lend(0);
     let table = bank.lend_table();
     Ok(G::open(share, table, FIRST, SECOND))
 }
 
-// A buffer for a payload.
-fn payload_of(alloc: Global) -> Result<Buf, AllocError>
+/// A buffer for a payload.
+pub fn payload_of(alloc: Global) -> Result<Buf, AllocError>
     ensures { IfOk result (λ into. into.limit ≡ 131043) }
 {
     let frame = Frame::new(alloc, PAGE)?;
@@ -101,7 +103,8 @@ fn payload_of(alloc: Global) -> Result<Buf, AllocError>
 /// Groups so many pairs over a tenth as many vids, keeping the least number of each.
 pub fn run<D: Disk, G: Group>(alloc: Global, disk: &mut D, count: u64) -> Result<Tally> {
     disk.start(PAGE)?;
-    let mut group: G = group_of(alloc)?;
+    let mut group: G = group_of(alloc, FRAMES, ENTRIES)?;
     let mut into = payload_of(alloc)?;
-    Ok(group_all(&mut group, disk, &mut into, count)?)
+    add(&mut group, disk, count, count.div_ceil(10))?;
+    Ok(fold_all(&mut group, disk, &mut into)?)
 }

@@ -1,4 +1,4 @@
-//! Times libraries of px: pages of tuples, files of tuples, the parser of graph text, programs and their printing.
+//! Times libraries of px: pages of tuples, files of tuples, the parser of graph text, stores, groupings, programs and their printing, and a superstep.
 //!
 //!     px_bench pages N            fills N pages of tuples and walks them
 //!     px_bench parse              parses the graph text on standard input
@@ -10,12 +10,16 @@
 //!                                 with files of a disk in FOLDER and a cache of 22 frames of 262144 bytes
 //!     px_bench small PART N FOLDER
 //!                                 the same with a cache of 256 frames of 4096 bytes
+//!     px_bench superstep N FOLDER computes the first superstep of pagerank on a partition of N vertices with three edges each,
+//!                                 within 64 frames of 262144 bytes and with files of two disks in FOLDER
+//!     px_bench superstep PART N FOLDER
+//!                                 does a part of what that does alone (scan, rank, group), with files of a disk in FOLDER
 //!     px_bench rank N             loads N vertices, computes them and stores them, in ten rounds
 //!     px_bench print N            prints N values as ranks and as distances
 //!     px_bench                    does a little of each
 //!
 //! What a job came to goes to standard output, and the seconds that it took to standard error.
-//! The files of `streams`, `merge`, `group`, `store` and `small` stay. Without words nothing is timed, and the files are removed.
+//! The files of `streams`, `merge`, `group`, `store`, `small` and `superstep` stay. Without words nothing is timed, and the files are removed.
 #![tactic(auto)]
 
 mod group;
@@ -27,9 +31,12 @@ mod rank;
 mod record;
 mod store;
 mod streams;
+mod superstep;
 mod tally;
+mod vertices;
 
 use crate::store::{Frames, PARTS, Part};
+use crate::superstep::{Done, WORKS, Work};
 use crate::tally::Tally;
 use anyhow::{Result, bail};
 use px_core::MemSource;
@@ -56,6 +63,10 @@ enum Job {
     Group(u64),
     /// A part of the work with so many records, over these frames and in a file of the folder that the last word names.
     Store(Frames, Part, u64),
+    /// So many vertices, with files of the folder that the last word names.
+    Superstep(u64),
+    /// A part of a superstep of so many vertices, with files of the folder that the last word names.
+    Work(Work, u64),
     /// So many vertices.
     Rank(u64),
     /// So many values.
@@ -84,7 +95,13 @@ const LITTLE_RECORDS: u64 = 6_000;
 
 const LITTLE_TREE: &str = "px_bench_store/f0";
 
+const LITTLE_SUPERSTEP: &str = "px_bench_superstep";
+
+const LITTLE_VERTICES: u64 = 2_000;
+
 const LITTLE_COUNT: u64 = 100;
+
+const ROUNDS: u64 = 10;
 
 fn counted_job(name: &str, count: u64) -> Option<Job> {
     if name == "pages" {
@@ -105,6 +122,8 @@ fn filed_job(name: &str, count: u64) -> Option<Job> {
         Some(Job::Merge(count))
     } else if name == "group" {
         Some(Job::Group(count))
+    } else if name == "superstep" {
+        Some(Job::Superstep(count))
     } else {
         None
     }
@@ -121,13 +140,21 @@ fn store_job(name: &str, part: &str, count: u64) -> Option<Job> {
     }
 }
 
+fn part_job(name: &str, part: &str, count: u64) -> Option<Job> {
+    if name == "superstep" {
+        Some(Job::Work(superstep::work_of(part)?, count))
+    } else {
+        store_job(name, part, count)
+    }
+}
+
 fn job_of(words: &[String]) -> Option<Job> {
     match words {
         [] => Some(Job::Little),
         [name] if name.as_str() == "parse" => Some(Job::Parse),
         [name, count] => counted_job(name.as_str(), count.parse().ok()?),
         [name, count, _] => filed_job(name.as_str(), count.parse().ok()?),
-        [name, part, count, _] => store_job(name.as_str(), part.as_str(), count.parse().ok()?),
+        [name, part, count, _] => part_job(name.as_str(), part.as_str(), count.parse().ok()?),
         _ => None,
     }
 }
@@ -146,6 +173,14 @@ fn print_streams(rt: &HostRuntime, (tally, pages): (Tally, u64)) -> Result<()> {
     Ok(())
 }
 
+fn print_superstep(rt: &HostRuntime, done: &Done) -> Result<()> {
+    println!(rt;
+        "superstep: {} sends, {} requests, {} contributed, {} folds, checksum {}",
+        done.part.sends, done.part.requests, done.part.contributed, done.folds.count, done.folds.sum
+    )?;
+    Ok(())
+}
+
 fn print_seconds(rt: &HostRuntime, start: Instant) -> Result<()> {
     let spent = start.elapsed(rt)?;
     eprintln!(rt; "{:.6}", spent.as_secs_f64())?;
@@ -159,7 +194,7 @@ fn little_in_memory(rt: &HostRuntime) -> Result<()> {
     print_tally(rt, "pages", pages::run(alloc, LITTLE_PAGES)?, "tuples")?;
     print_tally(rt, "parse", parse::run(alloc, &mut source)?, "vertices")?;
     let records = rank::build(alloc, LITTLE_COUNT)?;
-    let ranked = rank::run(alloc, &records, LITTLE_COUNT)?;
+    let ranked = rank::run(alloc, &records, LITTLE_COUNT, ROUNDS)?;
     print_tally(rt, "rank", ranked, "vertices")?;
     print_tally(rt, "print", print::run(alloc, LITTLE_COUNT)?, "bytes")
 }
@@ -201,13 +236,26 @@ fn little_store(rt: HostRuntime, frames: Frames) -> Result<()> {
     Ok(())
 }
 
+fn little_superstep(rt: HostRuntime) -> Result<()> {
+    let (done, _) = superstep::run(rt, LITTLE_SUPERSTEP, LITTLE_VERTICES)?;
+    print_superstep(&rt, &done)?;
+    let mut disk = FileDisk::new(rt, rt.alloc(), LITTLE_SUPERSTEP)?;
+    for work in WORKS {
+        let (tally, _) = superstep::run_work(&rt, &mut disk, work, LITTLE_VERTICES)?;
+        print_tally(&rt, work.name(), tally, work.things())?;
+    }
+    fs::remove_dir_all(&rt, LITTLE_SUPERSTEP)?;
+    Ok(())
+}
+
 fn do_little(rt: HostRuntime) -> Result<()> {
     little_in_memory(&rt)?;
     little_streams(rt)?;
     little_merge(rt)?;
     little_group(rt)?;
     little_store(rt, Frames::Large)?;
-    little_store(rt, Frames::Small)
+    little_store(rt, Frames::Small)?;
+    little_superstep(rt)
 }
 
 fn time_pages(rt: &HostRuntime, pages: u64) -> Result<()> {
@@ -274,10 +322,29 @@ fn time_store(
     print_tally(&rt, part.name(), tally, "records")
 }
 
+fn time_superstep(rt: HostRuntime, count: u64, folder: Option<&String>) -> Result<()> {
+    let Some(folder) = folder else {
+        bail!("there is no folder");
+    };
+    let (done, spent) = superstep::run(rt, folder.as_str(), count)?;
+    eprintln!(rt; "{:.6}", spent.as_secs_f64())?;
+    print_superstep(&rt, &done)
+}
+
+fn time_work(rt: HostRuntime, work: Work, count: u64, folder: Option<&String>) -> Result<()> {
+    let Some(folder) = folder else {
+        bail!("there is no folder");
+    };
+    let mut disk = FileDisk::new(rt, rt.alloc(), folder.as_str())?;
+    let (tally, spent) = superstep::run_work(&rt, &mut disk, work, count)?;
+    eprintln!(rt; "{:.6}", spent.as_secs_f64())?;
+    print_tally(&rt, work.name(), tally, work.things())
+}
+
 fn time_rank(rt: &HostRuntime, count: u64) -> Result<()> {
     let records = rank::build(rt.alloc(), count)?;
     let start = Instant::now(rt)?;
-    let tally = rank::run(rt.alloc(), &records, count)?;
+    let tally = rank::run(rt.alloc(), &records, count, ROUNDS)?;
     print_seconds(rt, start)?;
     print_tally(rt, "rank", tally, "vertices")
 }
@@ -304,10 +371,12 @@ fn main(rt: HostRuntime) -> Result<()> {
         Some(Job::Store(frames, part, count)) => {
             time_store(rt, frames, part, count, words.last())
         }
+        Some(Job::Superstep(count)) => time_superstep(rt, count, words.last()),
+        Some(Job::Work(work, count)) => time_work(rt, work, count, words.last()),
         Some(Job::Rank(count)) => time_rank(&rt, count),
         Some(Job::Print(count)) => time_print(&rt, count),
         None => bail!(
-            "the words are `pages N`, `parse`, `streams N FOLDER`, `merge N FOLDER`, `group N FOLDER`, `store PART N FOLDER`, `small PART N FOLDER`, `rank N` or `print N`"
+            "the words are `pages N`, `parse`, `streams N FOLDER`, `merge N FOLDER`, `group N FOLDER`, `store PART N FOLDER`, `small PART N FOLDER`, `superstep N FOLDER`, `superstep PART N FOLDER`, `rank N` or `print N`"
         ),
     }
 }

@@ -1,6 +1,6 @@
 // Runs of tuples are written to a file of a disk, and merged.
 ghost use Rattle.std.specs.Prelude.{◌≡◌, ◌≤◌, ◌+◌, length, IfOk};
-ghost use Rattle.px_pages.specs.Page.{room_of};
+ghost use Rattle.px_meaning.specs.Graph.{room_of};
 
 use crate::tally::{Tally, number};
 use anyhow::Result;

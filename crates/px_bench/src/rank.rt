@@ -14,9 +14,6 @@ use px_programs::PageRank;
 use px_record::VertexBuf;
 use std::alloc::Global;
 
-/// How often all vertices are computed.
-const ROUNDS: u64 = 10;
-
 /// The bytes of a frame, and the most that a vertex or a message may have.
 const FRAME: u32 = 262_144;
 
@@ -67,15 +64,21 @@ fn make(v: &mut VertexBuf, vid: Vid) -> Result<()> {
     Ok(())
 }
 
-/// The records of so many vertices, one behind the other: the length of a body in 4 bytes, and the body.
+/// Puts the record of a vertex behind the others: the length of its body in 4 bytes, and the body.
+pub fn push_record(records: &mut Vec<u8>, v: &VertexBuf) -> Result<()> {
+    let body = v.body();
+    records.extend_from_slice(&(body.len() as u32).to_be_bytes())?;
+    records.extend_from_slice(body)?;
+    Ok(())
+}
+
+/// The records of so many vertices, one behind the other.
 pub fn build(alloc: Global, count: u64) -> Result<Vec<u8>> {
     let mut records = Vec::new(alloc);
     let mut v = record_of(alloc, FRAME)?;
     for vid in 0..count {
         make(&mut v, vid)?;
-        let body = v.body();
-        records.extend_from_slice(&(body.len() as u32).to_be_bytes())?;
-        records.extend_from_slice(body)?;
+        push_record(&mut records, &v)?;
     }
     Ok(records)
 }
@@ -127,8 +130,8 @@ fn round(at: &At, records: &[u8], round: u64, v: &mut VertexBuf, out: &mut Sums)
     Ok(tally)
 }
 
-/// Computes so many vertices in each round, and sums their bytes and what they send and contribute.
-pub fn run(alloc: Global, records: &[u8], count: u64) -> Result<Tally> {
+/// Computes so many vertices in each of so many rounds, and sums their bytes and what they send and contribute.
+pub fn run(alloc: Global, records: &[u8], count: u64, rounds: u64) -> Result<Tally> {
     let at = At {
         superstep: 1,
         aggregate: 0,
@@ -138,7 +141,7 @@ pub fn run(alloc: Global, records: &[u8], count: u64) -> Result<Tally> {
     let mut v = record_of(alloc, FRAME)?;
     let mut out = Sums { sum: 0 };
     let mut tally = Tally::default();
-    for number in 0..ROUNDS {
+    for number in 0..rounds {
         let ranked = round(&at, records, number, &mut v, &mut out)?;
         tally.add(ranked.count, ranked.sum);
     }

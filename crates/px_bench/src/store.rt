@@ -1,7 +1,7 @@
 // Records of a store are loaded, scanned, got and put anew.
 ghost use Rattle.std.specs.Prelude.{◌≡◌, ◌≤◌, true, OnOk, IfOk};
 ghost use Rattle.px_frames.specs.Banks.{IsFrameLen};
-ghost use Rattle.px_pages.specs.Page.{room_of};
+ghost use Rattle.px_meaning.specs.Graph.{room_of};
 ghost use Rattle.px_store.specs.Desks.{IsReady};
 
 use crate::record::record_of;
@@ -181,8 +181,8 @@ fn put_all<S: Store, D: Disk>(
     Ok(())
 }
 
-// Sums all records in order.
-fn scan<S: Store, D: Disk>(
+/// Sums all records in order.
+pub fn scan<S: Store, D: Disk>(
     store: &mut S,
     disk: &mut D,
     desk: &mut Desk,
@@ -226,8 +226,8 @@ fn get_some<S: Store, D: Disk>(
     Ok(tally)
 }
 
-// A desk for a disk, whose cache has so many frames of these bytes.
-fn desk_of<D: Disk>(alloc: Global, disk: &D, bytes: u32, count: u32) -> Result<Desk, AllocError>
+/// A desk for a disk, whose cache has so many frames of these bytes.
+pub fn desk_of<D: Disk>(alloc: Global, disk: &D, bytes: u32, count: u32) -> Result<Desk, AllocError>
     requires frame_len { IsFrameLen bytes }
     requires page_len { (D.shown disk.now).page_len ≡ bytes }
     requires some { 4 ≤ count }
@@ -244,9 +244,9 @@ fn desk_of<D: Disk>(alloc: Global, disk: &D, bytes: u32, count: u32) -> Result<D
     })
 }
 
-// A store that holds nothing.
-fn open_store() -> BTree
-    ensures { result.part ≡ 0 }
+/// A store that holds nothing.
+pub fn open_store() -> BTree
+    ensures { result.tree.part ≡ 0 }
 {
     BTree::open(0)
 }

@@ -1,6 +1,6 @@
 // Tuples are written to a file of a disk, and read back.
 ghost use Rattle.std.specs.Prelude.{◌≡◌, ◌≤◌, ◌+◌, length, IfOk};
-ghost use Rattle.px_pages.specs.Page.{room_of};
+ghost use Rattle.px_meaning.specs.Graph.{room_of};
 
 use crate::pages::body_with_edge;
 use crate::tally::Tally;
@@ -56,8 +56,8 @@ fn read<D: Disk>(reader: &mut Reader, disk: &mut D) -> Result<Tally, Stop>
     Ok(tally)
 }
 
-// A frame of so many bytes.
-fn frame_of(alloc: Global, len: u32) -> Result<Frame, AllocError>
+/// A frame of so many bytes.
+pub fn frame_of(alloc: Global, len: u32) -> Result<Frame, AllocError>
     ensures { IfOk result (λ frame. length frame ≡ len) }
 {
     Frame::new(alloc, len)

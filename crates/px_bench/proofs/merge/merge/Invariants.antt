@@ -1,5 +1,5 @@
 use Rattle.std.proofs.Common.{◌≡◌, ◌≤◌, ◌+◌, length}
-use Rattle.px_pages.specs.Page.{room_of}
+use Rattle.px_meaning.specs.Graph.{room_of}
 use Rattle.px_runs.specs.Inputs.{all_left}
 use Rattle.px_bench.proofs.merge.merge.Given as goal
 

@@ -1,5 +1,5 @@
 use Rattle.std.proofs.Common.{◌≡◌}
-use Rattle.px_pages.specs.Page.{room_of}
+use Rattle.px_meaning.specs.Graph.{room_of}
 use Rattle.px_store.specs.Desks.{IsReady}
 use Rattle.px_bench.proofs.store.scan.Given as goal
 
