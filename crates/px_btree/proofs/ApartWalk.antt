@@ -1,11 +1,13 @@
 -- A walk over tuples that are kept apart.
-use Rattle.std.proofs.Common.{◌≡◌, ◌<◌, ◌≤◌, ◌+◌, ℕ, zero, suc, List, [], ◌∷◌, ◌++◌, length, take, drop, refl, sym, ◌∙◌, ap, arith, inl, inr}
+use Rattle.std.proofs.Common.{◌≡◌, ◌<◌, ◌≤◌, ◌+◌, ◌-◌, ℕ, zero, suc, List, [], ◌∷◌, ◌++◌, length, take, drop, get_or, refl, sym, ◌∙◌, ap, arith, inl, inr}
 use Rattle.std.proofs.lemmas.Bool.{cases_lt}
-use Rattle.std.proofs.lemmas.List.{length-append, length-drop, drop-drop, drop_at}
+use Rattle.std.proofs.lemmas.List.{length-append, length-drop, drop-drop, drop_at, take_at, get_or-drop}
+use Rattle.std.specs.Prelude.{Option, Some, None, IfNone, slice_get}
 use Rattle.std.specs.List.{prefix_len}
-use Rattle.px_pages.specs.Entry.{Entry, IsEntry, AreEntries, entry_bytes, bytes_of, size_of}
+use Rattle.px_pages.specs.Entry.{Entry, IsEntry, AreEntries, entry, entry_bytes, bytes_of, size_of}
 use Rattle.px_pages.specs.Place.{is_below}
 use Rattle.px_pages.proofs.Writing.{length-entry_bytes}
+use Rattle.px_cache.proofs.Lists.{some_is}
 use Rattle.px_btree.specs.Apart.{below_len, same_len}
 use Rattle.px_btree.proofs.Orders.{not_below, below, not_equal, equal}
 use Rattle.px_btree.proofs.Places.{past, stops}
@@ -34,6 +36,24 @@ pub no_same : (v at : ℕ) (page : List ℕ) (es : List Entry) → length page <
 no_same v at page es short is =
     let none = none_left es (omega (arith, short, ap length is, length-drop at page)) in
     omega (arith, ap (same_len v) none)
+
+none_some : (e : Entry) → None ≡ Some e → ⊥
+none_some e is = cc is
+
+pub none_first : (at : ℕ) (page : List ℕ) (es : List Entry) (e : Entry) → length page < at + 13 → drop at page ≡ bytes_of es → slice_get es 0 ≡ Some e → ⊥
+none_first at page es e short is here =
+    let none = none_left es (omega (arith, short, ap length is, length-drop at page)) in
+    none_some e (sym (ap (λ (l : List Entry). slice_get l 0) none) ∙ here)
+
+pub none_then : {X P Q : Type 0} (r : Option X) → IfNone r P → (P → Q) → IfNone r Q
+none_then None h f = f h
+none_then (Some x) h f = tt
+
+-- a tuple behind others
+pub slice_get-drop : (i : ℕ) (es : List Entry) → slice_get (drop i es) 0 ≡ slice_get es i
+slice_get-drop zero es = refl
+slice_get-drop (suc i) [] = refl
+slice_get-drop (suc i) (e ∷ es) = slice_get-drop i es
 
 -- the tuple that was read at a byte
 module _ (page : List ℕ) (at key end : ℕ) (room : at + 13 ≤ end) (within : end ≤ length page)
@@ -81,6 +101,25 @@ module _ (page : List ℕ) (at key end : ℕ) (room : at + 13 ≤ end) (within :
       let this = read e (bytes_of es) all.0 is in
       let none : same_len v (e ∷ es) ≡ 0 = rw (not_equal v e.key (λ same. other (omega (arith, this.0, same)))) refl in
       omega (arith, none)
+
+  pub first_is : (v tag : ℕ) (es : List Entry) → tag ≡ get_or page (at + 8) 0 → AreEntries es → drop at page ≡ bytes_of es → key ≡ v
+      → slice_get es 0 ≡ Some (entry v tag (take (end - at - 13) (drop (at + 13) page)))
+  first_is v tag [] tag_is all is same = absurd (nothing is)
+  first_is v tag (e ∷ es) tag_is all is same =
+      let this = read e (bytes_of es) all.0 is in
+      let key_is : e.key ≡ v = sym this.0 ∙ same in
+      let tag_at : e.tag ≡ tag = ap (λ (l : List ℕ). get_or l 8 0) (sym is) ∙ get_or-drop at page 8 0 ∙ sym tag_is in
+      let len : length e.body ≡ end - at - 13 = omega (arith, this.1) in
+      let body : e.body ≡ take (end - at - 13) (drop (at + 13) page) =
+      sym (take_at e.body (bytes_of es) (length e.body) refl) ∙ ap (λ (l : List ℕ). take (length e.body) (drop 13 l)) (sym is) ∙ ap (take (length e.body)) (drop-drop 13 at page)
+      ∙ ap (λ (n : ℕ). take n (drop (at + 13) page)) len in
+      ap (λ (k : ℕ). Some (entry k e.tag e.body)) key_is ∙ ap (λ (x : ℕ). Some (entry v x e.body)) tag_at ∙ ap (λ (b : List ℕ). Some (entry v tag b)) body
+
+  pub first_not : (v : ℕ) (es : List Entry) (e : Entry) → AreEntries es → drop at page ≡ bytes_of es → (key ≡ v → ⊥) → slice_get es 0 ≡ Some e → e.key ≡ v → ⊥
+  first_not v [] e all is other here same = nothing is
+  first_not v (d ∷ es) e all is other here same =
+      let this = read d (bytes_of es) all.0 is in
+      other (this.0 ∙ ap (λ (x : Entry). x.key) (some_is here) ∙ same)
 
 -- the bytes in front of the first tuple that is not below a key
 pub below_is : (v : ℕ) (es : List Entry) → below_len v es ≡ length (bytes_of (take (prefix_len (is_below v) es) es))

@@ -1,15 +1,18 @@
 -- A page is open for the vids from one on.
-use Rattle.std.proofs.Common.{◌≡◌, ◌<◌, ◌≤◌, ◌+◌, ◌⊎◌, ℕ, List, [], length, drop, sym, ◌∙◌, ap, subst, arith, inl, inr}
+use Rattle.std.proofs.Common.{◌≡◌, ◌<◌, ◌≤◌, ◌+◌, ◌⊎◌, ℕ, Bool, List, [], length, drop, sym, ◌∙◌, ap, subst, arith, inl, inr}
 use Rattle.std.proofs.lemmas.Bool.{cases_lt}
 use Rattle.std.proofs.lemmas.List.{drop_all}
+use Rattle.std.specs.Prelude.{is_some}
 use Rattle.std.specs.List.{prefix_len}
+use Rattle.px_meaning.specs.Graph.{Vertex, lookup, vertex_or_fresh}
 use Rattle.px_pages.specs.Entry.{Entry, bytes_of}
 use Rattle.px_pages.specs.Page.{IsMade, writer_of, tuples_of, link_of}
 use Rattle.px_pages.specs.Place.{is_below}
 use Rattle.px_pages.proofs.Writing.{made_tuples, made_link}
 use Rattle.px_btree.specs.Put.{placed}
+use Rattle.px_btree.specs.Tree.{Piece, AreKeys, AreItems, items}
 use Rattle.px_btree.specs.Apart.{KeepsApart, Parts, closed}
-use Rattle.px_btree.specs.Open.{IsOpenFrom, EndsHere, PutsApart}
+use Rattle.px_btree.specs.Open.{IsOpenFrom, PartsAt, EndsHere, PutsApart, GivesApart}
 use Rattle.px_btree.specs.declared.apart.Apart.{Apart}
 use Rattle.px_btree.proofs.ApartWalk.{prefix_from}
 use Rattle.px_btree.proofs.ApartPage.{keeps_within, length-closed, link_is}
@@ -81,4 +84,23 @@ puts_apart e a0 a a' old0 old new shut is ends puts =
           let same : is.es ≡ es = sym (made_tuples (writer_of is.len is.es) is.page_kind is.page_link is.es (closed a old) is.keeps.made) ∙ made_tuples (writer_of n es) k l es (closed a old) made' in
           (puts n k l is.index es (keeps_too is.len is.page_kind is.page_link is.index n k l is.es es a old is.keeps made') (omega (arith, ahead, ap (prefix_len (is_below e.key)) same))).made;
       ends = ends;
+    }
+
+-- the vertex of a vid was taken from the tuples that are kept apart
+pub gives_apart : (v : ℕ) (there : Bool) (x : Vertex) (a : Apart) (page shut : List ℕ) → closed a page ≡ shut → PartsAt v a page → EndsHere v shut
+    → ((n k l : ℕ) (es : List Entry) (low : ℕ) (xs : List Piece) → KeepsApart n k l (prefix_len (is_below v) es) es a page → AreKeys low es xs → AreItems (length page) es
+    → (there ≡ is_some (lookup v (items es))) × (x ≡ vertex_or_fresh (lookup v (items es))))
+    → GivesApart v there x shut
+gives_apart v there x a page shut same parts ends found =
+    let n = parts.len in
+    let k = parts.page_kind in
+    let l = parts.page_link in
+    let ts : tuples_of shut ≡ parts.es = ap tuples_of (sym same) ∙ made_tuples (writer_of n parts.es) k l parts.es (closed a page) parts.keeps.made in
+    let len : length shut ≡ length page = ap (λ (b : List ℕ). length b) (sym same) ∙ length-closed a page (keeps_within n k l (prefix_len (is_below v) parts.es) parts.es a page parts.keeps) in
+    record {
+      ends = ends;
+      found = λ low xs keys all.
+          let keys' : AreKeys low parts.es xs = subst (λ (es : List Entry). AreKeys low es xs) ts keys in
+          let all' : AreItems (length page) parts.es = subst (λ (m : ℕ). AreItems m parts.es) len (subst (λ (es : List Entry). AreItems (length shut) es) ts all) in
+          subst (λ (es : List Entry). (there ≡ is_some (lookup v (items es))) × (x ≡ vertex_or_fresh (lookup v (items es)))) (sym ts) (found n k l parts.es low xs parts.keeps keys' all');
     }

@@ -2,10 +2,10 @@
 use Rattle.std.proofs.Common.{◌≡◌, ◌<◌, ◌≤◌, ◌+◌, ◌*◌, ◌⊎◌, ℕ, zero, suc, Bool, true, ◌==◌, List, [], ◌∷◌, length, take, set, get_or, refl, sym, ◌∙◌, ap, subst, arith, inl, inr, set-set, get_or-set_same}
 use Rattle.std.proofs.lemmas.Bool.{cases_lt, cases_eq}
 use Rattle.std.proofs.lemmas.List.Sums.{prefix_len-le-length}
-use Rattle.std.specs.Prelude.{if◌then◌else◌, ◌&&◌, IfSome, IfNone, Option, Some, None, slice_get}
+use Rattle.std.specs.Prelude.{if◌then◌else◌, ◌&&◌, IfSome, IfNone, Option, Some, None, slice_get, is_some}
 use Rattle.std.specs.List.{prefix_len}
 use Rattle.px_core.specs.Shown.{Shown}
-use Rattle.px_meaning.specs.Graph.{Graph, put}
+use Rattle.px_meaning.specs.Graph.{Vertex, Graph, lookup, vertex_or_fresh, put}
 use Rattle.px_pages.specs.Entry.{Entry}
 use Rattle.px_pages.specs.Page.{IsMade, writer_of, tuples_of, used_of, link_of}
 use Rattle.px_pages.specs.Place.{IsPlace, IsFront, is_below}
@@ -21,20 +21,20 @@ use Rattle.px_cache.specs.View.{AnyFile, OthersShown, SameCache}
 use Rattle.px_store.specs.declared.shared.Desk.{Desk}
 use Rattle.px_store.specs.Desks.{IsReady, IsDone}
 use Rattle.px_store.proofs.Apart.{done_by}
-use Rattle.px_btree.specs.Tree.{Piece, TreeView, IsLevel, IsMark, MarkFits, IsHeld, IsItem, leaves_of}
+use Rattle.px_btree.specs.Tree.{Piece, TreeView, AreKeys, AreItems, IsLevel, IsMark, MarkFits, IsTree, IsHeld, IsItem, items, leaves_of}
 use Rattle.px_btree.specs.Find.{piece_at, leaf_at, pick}
 use Rattle.px_btree.specs.Put.{placed, with_tuples, changed, changed_leaf}
 use Rattle.px_btree.specs.Scan.{IsScan, is_held}
 use Rattle.px_btree.specs.Apart.{KeepsApart, closed}
-use Rattle.px_btree.specs.Open.{IsOpenFrom, closed_in, shut, shut_in, IsLeafIn, IsAlone, PutsApart, PutsOpen, OpensAt, OpenFits, OpenTreeView, IsStored, IsStoredScan}
+use Rattle.px_btree.specs.Open.{IsOpenFrom, EndsHere, closed_in, shut, shut_in, IsLeafIn, IsAlone, PutsApart, GivesApart, PutsOpen, GivesOpen, OpensAt, OpenFits, OpenTreeView, IsStored, IsStoredScan}
 use Rattle.px_btree.specs.declared.tree.Mark.{Mark}
 use Rattle.px_btree.specs.declared.apart.Apart.{Apart}
 use Rattle.px_btree.specs.declared.open_leaf.OpenLeaf.{OpenLeaf}
 use Rattle.px_btree.proofs.OpenPage.{open_at}
 use Rattle.px_btree.proofs.Orders.{not_below, below, not_equal, equal}
-use Rattle.px_btree.proofs.Places.{stops}
+use Rattle.px_btree.proofs.Places.{stops, piece_keys}
 use Rattle.px_btree.proofs.Levels.{page_tuples}
-use Rattle.px_btree.proofs.Items.{leaves_level, tree_kept}
+use Rattle.px_btree.proofs.Items.{leaves_level, tree_kept, items_at, lookup_leaf}
 use Rattle.px_btree.proofs.Putting.{leaves_changed, StartsBelow, starts_of, held_put, set_same}
 use Rattle.px_btree.proofs.Marking.{KeepsFront, behind, at_front, stops_below, made_next, leaf_page, changed_head, same_leaf}
 
@@ -119,6 +119,16 @@ module _ (f : ℕ) (o o' : OpenLeaf) (c : CacheView) (i : ℕ) (page new b : Lis
 
   pub leaf_shut : closed o'.apart new ≡ closed o.apart page → shut o' (written_frame c i b) ≡ shut o c
   leaf_shut shuts = ap (shut o') (sym now) ∙ stays_shut f o o' c new whole frame is (shuts ∙ ap (closed o.apart) page_at)
+
+-- the vertex of a vid was given out of the page of an open leaf
+pub leaf_gives : (v f : ℕ) (there : Bool) (x : Vertex) (o : OpenLeaf) (c : CacheView) (i : ℕ) (page : List ℕ) → i ≡ o.frame → page ≡ get_or c.frames i [] → length c.notes ≡ length c.frames → o.from ≤ v → IsLeafIn f o c
+    → ((from : ℕ) → from ≤ v → IsOpenFrom from o.apart page → GivesApart v there x (closed o.apart page)) → GivesOpen v there x o c
+leaf_gives v f there x o c i page same page_is whole le is gives =
+    let at : page ≡ get_or c.frames o.frame [] = page_is ∙ ap (λ (j : ℕ). get_or c.frames j []) same in
+    record {
+      whole = whole;
+      given = subst (λ (b : List ℕ). GivesApart v there x (closed o.apart b)) at (gives o.from le (subst (λ (b : List ℕ). IsOpenFrom o.from o.apart b) (sym at) is.2));
+    }
 
 -- the page of a frame was opened
 pub opens_at : (f i : ℕ) (m : Mark) (place : Place) (a : Apart) (c : CacheView) (page new b : List ℕ) → page ≡ get_or c.frames i [] → b ≡ new → length c.notes ≡ length c.frames → Holds c.notes i f m.page
@@ -215,6 +225,53 @@ mark_stays m f levels v at keeps is =
     } in
     subst (λ (z : Piece). IsMark m z) (sym at) new
 
+-- the closed page of an open leaf of a tree is that of the leaf in which the vid of the last call lies
+open_page : (t : TreeView) (m : Mark) (o : OpenLeaf) (d : Desk) (s : Shown) (l : Graph) → t.mark ≡ Some m → o.mark ≡ m → length d.cache.notes ≡ length d.cache.frames → IsLeafIn (8 * t.part) o d.cache
+    → (held : IsHeld t (record d { cache = shut o d.cache }) s l)
+    → MarkFits (Some m) held.levels × Holds (mark d.cache.notes o.frame) o.frame (8 * t.part) m.page × (slice_get held.tree.ps m.page ≡ Some (closed_in o d.cache))
+open_page t m o d s l marked is_m whole leaf held =
+    let f = 8 * t.part in
+    let old = closed_in o d.cache in
+    let c0 = shut o d.cache in
+    let fits : MarkFits (Some m) held.levels = subst (λ (k : Option Mark). MarkFits k held.levels) marked held.tree.mark in
+    let holds : Holds c0.notes o.frame f m.page = subst (λ (k : Mark). Holds c0.notes o.frame f k.page) is_m (mark_holds d.cache.notes o.frame o.frame f o.mark.page leaf.0) in
+    let got : get_or c0.frames o.frame [] ≡ old = written_at d.cache o.frame f o.mark.page old whole leaf.0 in
+    (fits, holds, held.tree.shows.held o.frame m.page holds ∙ ap (λ (b : List ℕ). Some b) got)
+
+-- a vid lies in the leaf of this page, where the page ends behind it
+page_ends : (m : Mark) (v : ℕ) (t : TreeView) (d : Desk) (s : Shown) (levels : List (List Piece)) (old : List ℕ) → (tree : IsTree t d s levels) → MarkFits (Some m) levels → slice_get tree.ps m.page ≡ Some old → m.key ≤ v → EndsHere v old
+    → (slice_get tree.ps (leaf_at m.key levels).page ≡ Some old) × (tuples_of old ≡ (leaf_at m.key levels).es) × (leaf_at v levels ≡ leaf_at m.key levels) × (length old ≡ s.page_len)
+    × ((prefix_len (is_below v) (leaf_at m.key levels).es < length (leaf_at m.key levels).es) ⊎ (link_of old ≡ 0))
+page_ends m v t d s levels old tree fits read le ends =
+    let xs = leaves_of levels in
+    let x = piece_at m.key xs in
+    let level = leaves_level s.page_len tree.ps levels tree.stack in
+    let here = leaf_page m.key 0 s.page_len tree.ps xs tree.first level in
+    let at : slice_get tree.ps x.page ≡ Some old = ap (slice_get tree.ps) fits.page ∙ read in
+    let ts : tuples_of old ≡ x.es = page_tuples s.page_len 3 here.0 x.page tree.ps x.es old here.1 at in
+    let ends' : (prefix_len (is_below v) x.es < length x.es) ⊎ (link_of old ≡ 0) = subst (λ (es : List Entry). (prefix_len (is_below v) es < length es) ⊎ (link_of old ≡ 0)) ts ends in
+    (at, ts, same_leaf m.key v s.page_len tree.ps xs old level le at ends', ap (λ (b : List ℕ). length b) (some_is (sym at ∙ here.1.at)) ∙ here.1.made.page_len, ends')
+
+-- the vertex of a vid was given out of the open leaf of a tree
+open_gives : (t : TreeView) (o : OpenLeaf) (d : Desk) (s : Shown) (l : Graph) (v : ℕ) (there : Bool) (x : Vertex) → t.mark ≡ Some o.mark → IsLeafIn (8 * t.part) o d.cache → o.mark.key ≤ v → GivesOpen v there x o d.cache
+    → IsHeld t (record d { cache = shut o d.cache }) s l → (there ≡ is_some (lookup v l)) × (x ≡ vertex_or_fresh (lookup v l))
+open_gives t o d s l v there x marked leaf le gives held =
+    let tree = held.tree in
+    let levels = held.levels in
+    let old = closed_in o d.cache in
+    let open_is = open_page t o.mark o d s l marked refl gives.whole leaf held in
+    let is = page_ends o.mark v t (record d { cache = shut o d.cache }) s levels old tree open_is.0 open_is.2 le gives.given.ends in
+    let z = leaf_at v levels in
+    let ts : tuples_of old ≡ z.es = is.1 ∙ ap (λ (y : Piece). y.es) (sym is.2) in
+    let keys = piece_keys v s.page_len true tree.ps (leaves_of levels) (leaves_level s.page_len tree.ps levels tree.stack) in
+    let keys' : AreKeys z.low (tuples_of old) keys.0 = subst (λ (es : List Entry). AreKeys z.low es keys.0) (sym ts) keys.1 in
+    let all : AreItems (length old) (tuples_of old) =
+    subst (λ (es : List Entry). AreItems (length old) es) (sym ts) (subst (λ (n : ℕ). AreItems n z.es) (sym is.3) (items_at v s.page_len (leaves_of levels) tree.items)) in
+    let found = gives.given.found z.low keys.0 keys' all in
+    let same : lookup v (items (tuples_of old)) ≡ lookup v l =
+    ap (λ (es : List Entry). lookup v (items es)) ts ∙ sym (lookup_leaf v s.page_len tree.ps levels tree.stack) ∙ ap (λ (k : Graph). lookup v k) (sym held.is) in
+    (found.0 ∙ ap is_some same, found.1 ∙ ap vertex_or_fresh same)
+
 -- a vertex was put into the open leaf of a tree
 pub held_open : (t : TreeView) (m : Mark) (o o' : OpenLeaf) (d : Desk) (c' : CacheView) (s : Shown) (l : Graph) (e : Entry) → t.mark ≡ Some m → o.mark ≡ m → IsLeafIn (8 * t.part) o d.cache → m.key ≤ e.key → IsItem s.page_len e
     → PutsOpen e (8 * t.part) o o' d.cache c' → IsHeld t (record d { cache = shut o d.cache }) s l → IsHeld t (record d { cache = shut o' c' }) s (put e.key (vertex_of e.body) l)
@@ -226,16 +283,14 @@ held_open t m o o' d c' s l e marked is_m leaf le item puts held =
     let x = piece_at m.key xs in
     let old = closed_in o d.cache in
     let c0 = shut o d.cache in
-    let fits : MarkFits (Some m) levels = subst (λ (k : Option Mark). MarkFits k levels) marked tree.mark in
     let level = leaves_level s.page_len tree.ps levels tree.stack in
-    let here = leaf_page m.key 0 s.page_len tree.ps xs tree.first level in
-    let holds : Holds c0.notes o.frame f m.page = subst (λ (k : Mark). Holds c0.notes o.frame f k.page) is_m (mark_holds d.cache.notes o.frame o.frame f o.mark.page leaf.0) in
-    let got : get_or c0.frames o.frame [] ≡ old = written_at d.cache o.frame f o.mark.page old puts.whole leaf.0 in
-    let read : slice_get tree.ps m.page ≡ Some old = tree.shows.held o.frame m.page holds ∙ ap (λ (b : List ℕ). Some b) got in
-    let at : slice_get tree.ps x.page ≡ Some old = ap (slice_get tree.ps) fits.page ∙ read in
-    let ts : tuples_of old ≡ x.es = page_tuples s.page_len 3 here.0 x.page tree.ps x.es old here.1 at in
-    let ends : (prefix_len (is_below e.key) x.es < length x.es) ⊎ (link_of old ≡ 0) = subst (λ (es : List Entry). (prefix_len (is_below e.key) es < length es) ⊎ (link_of old ≡ 0)) ts puts.ends in
-    let same : leaf_at e.key levels ≡ x = same_leaf m.key e.key s.page_len tree.ps xs old level le at ends in
+    let open_is = open_page t m o d s l marked is_m puts.whole leaf held in
+    let fits = open_is.0 in
+    let holds = open_is.1 in
+    let is = page_ends m e.key t (record d { cache = c0 }) s levels old tree fits open_is.2 le puts.ends in
+    let at = is.0 in
+    let same = is.2 in
+    let ends = is.4 in
     let starts = starts_of e.key 0 xs tree.first in
     let at' : slice_get tree.ps (leaf_at e.key levels).page ≡ Some old = ap (λ (z : Piece). slice_get tree.ps z.page) same ∙ at in
     let p : m.page ≡ (leaf_at e.key levels).page = sym fits.page ∙ ap (λ (z : Piece). z.page) (sym same) in
@@ -368,6 +423,30 @@ opened t u f tree file m o d c' marked some none s l held = subst (λ (v : TreeV
           fits = tt;
         }
     go (Some o) some none = opened_leaf t m o d c' s l marked (subst (λ (k : ℕ). OpensAt k m o d.cache c') file some) held
+
+-- a call that left the leaf open, and gave a vertex out of it or not
+pub scan_stays : (t : OpenTreeView) (u : TreeView) (f : ℕ) → t.tree ≡ u → f ≡ 8 * t.tree.part → (o o' : OpenLeaf) (d : Desk) (c' : CacheView) → t.leaf ≡ Some o → o'.mark ≡ o.mark
+    → (IsLeafIn f o d.cache → IsAlone f o d.cache → IsLeafIn f o' c')
+    → (IsLeafIn f o d.cache → IsAlone f o d.cache → shut o' c' ≡ shut o d.cache)
+    → (s : Shown) (a b : Graph) → IsStoredScan t d s a b → IsStoredScan (record { tree = u; leaf = Some o' }) (record d { cache = c' }) s a b
+scan_stays t u f tree file o o' d c' some marks leaf same s a b is =
+    let fits : OpenFits (Some o) t.tree d = subst (λ (x : Option OpenLeaf). OpenFits x t.tree d) some is.fits in
+    let scan : IsScan t.tree (shut_in (Some o) d) s a b = subst (λ (x : Option OpenLeaf). IsScan t.tree (shut_in x d) s a b) some is.scan in
+    let mine = in_file (8 * t.tree.part) f o d.cache file fits.2 in
+    let only = only_in (8 * t.tree.part) f o d.cache file (alone t.tree o d s scan.tree.ps fits.2 scan.tree.shows) in
+    let now : IsStoredScan (record { tree = t.tree; leaf = Some o' }) (record d { cache = c' }) s a b = record {
+      scan = subst (λ (c : CacheView). IsScan t.tree (record d { cache = c }) s a b) (sym (same mine only)) scan;
+      fits = (fits.0, fits.1 ∙ ap (λ (m : Mark). Some m) (sym marks), in_file f (8 * t.tree.part) o' c' (sym file) (leaf mine only));
+    } in
+    subst (λ (v : TreeView). IsStoredScan (record { tree = v; leaf = Some o' }) (record d { cache = c' }) s a b) tree now
+
+pub stored_gives : (t : OpenTreeView) (f : ℕ) → f ≡ 8 * t.tree.part → (o : OpenLeaf) (d : Desk) (v : ℕ) (there : Bool) (x : Vertex) → t.leaf ≡ Some o → o.from ≤ v → (IsLeafIn f o d.cache → IsAlone f o d.cache → GivesOpen v there x o d.cache)
+    → (s : Shown) (l : Graph) → IsStored t d s l → (there ≡ is_some (lookup v l)) × (x ≡ vertex_or_fresh (lookup v l))
+stored_gives t f file o d v there x some le gives s l is =
+    let fits : OpenFits (Some o) t.tree d = subst (λ (y : Option OpenLeaf). OpenFits y t.tree d) some is.fits in
+    let held : IsHeld t.tree (shut_in (Some o) d) s l = subst (λ (y : Option OpenLeaf). IsHeld t.tree (shut_in y d) s l) some is.held in
+    let given = gives (in_file (8 * t.tree.part) f o d.cache file fits.2) (only_in (8 * t.tree.part) f o d.cache file (alone t.tree o d s held.tree.ps fits.2 held.tree.shows)) in
+    open_gives t.tree o d s l v there x fits.1 fits.2 (omega (arith, le, fits.2.1)) given held
 
 pub done_by_cache : (t : TreeView) (d : Desk) (c' : CacheView) → ((s : Shown) → OthersShown (8 * t.part) d.cache s c' s) → SameCache d.cache c' → (s : Shown) → IsReady true t.part d s → IsDone true t.part d s (record d { cache = c' }) s
 done_by_cache t d c' others stays s ready = done_by true t.part d c' s s ready stays (record { touches = touches_refl AnyFile s; no_fault = refl }) (others s)

@@ -69,3 +69,10 @@ put_done q p1 p2 p3 a b c d e s t is1 is2 is3 first second third fourth =
     let three = subst (λ (n : ℕ). IsDone true n c s d t) is2 third in
     let four = subst (λ (n : ℕ). IsDone true n d t e t) is3 (fourth (subst (λ (n : ℕ). IsReady true n d t) (sym is3) three.ready)) in
     done_then true q a b e s s t first (done_then true q b c e s s t two (done_then true q c d e s t t three four))
+
+-- a get: the open leaf, its closing, and the closed tree
+pub get_done : {X E : Type 0} (r : Result X E) (q p1 p2 : ℕ) (a b c d : Desk) (s t : Shown) → p1 ≡ q → p2 ≡ q → IsDone true q a s b s → (IsReady true p1 b s → IsDone true p1 b s c s) → OnOk r (IsDone true p2 c s d t)
+    → OnOk r (IsDone true q a s d t)
+get_done r q p1 p2 a b c d s t is1 is2 first second third =
+    let two = subst (λ (n : ℕ). IsDone true n b s c s) is1 (second (subst (λ (n : ℕ). IsReady true n b s) (sym is1) first.ready)) in
+    done_after r q p2 a c d s t is2 (done_then true q a b c s s s first two) third

@@ -1,8 +1,8 @@
 -- A tree one of whose leaves may be open.
-use Rattle.std.specs.Prelude.{◌≡◌, ◌≤◌, ◌<◌, ◌+◌, ◌*◌, ◌⊎◌, ℕ, List, [], length, slice_index_or, Option, Some, None}
+use Rattle.std.specs.Prelude.{◌≡◌, ◌≤◌, ◌<◌, ◌+◌, ◌*◌, ◌⊎◌, ℕ, Bool, List, [], length, slice_index_or, Option, Some, None, is_some}
 use Rattle.std.specs.List.{prefix_len}
 use Rattle.px_core.specs.Shown.{Shown}
-use Rattle.px_meaning.specs.Graph.{Graph}
+use Rattle.px_meaning.specs.Graph.{Vertex, Graph, lookup, vertex_or_fresh}
 use Rattle.px_pages.specs.Entry.{Entry}
 use Rattle.px_pages.specs.Page.{IsMade, writer_of, tuples_of, link_of}
 use Rattle.px_pages.specs.Place.{Turned, IsFront, is_below}
@@ -10,7 +10,7 @@ use Rattle.px_cache.specs.View.{CacheView, Holds, written_frame}
 use Rattle.px_store.specs.declared.shared.Desk.{Desk}
 use Rattle.px_btree.specs.Apart.{KeepsApart, closed}
 use Rattle.px_btree.specs.Put.{placed}
-use Rattle.px_btree.specs.Tree.{TreeView, IsHeld}
+use Rattle.px_btree.specs.Tree.{Piece, AreKeys, AreItems, items, TreeView, IsHeld}
 use Rattle.px_btree.specs.Scan.{IsScan}
 use Rattle.px_btree.specs.declared.tree.Mark.{Mark}
 use Rattle.px_btree.specs.declared.apart.Apart.{Apart}
@@ -26,6 +26,14 @@ pub record IsOpenFrom (from : ℕ) (a : Apart) (page : List ℕ) : Type 0 where
   pub keeps : KeepsApart len page_kind page_link index es a page
   pub ahead : (v : ℕ) → from ≤ v → index ≤ prefix_len (is_below v) es
 
+-- this page keeps the tuples apart that are not below this vid
+pub record PartsAt (v : ℕ) (a : Apart) (page : List ℕ) : Type 0 where
+  pub len : ℕ
+  pub page_kind : ℕ
+  pub page_link : ℕ
+  pub es : List Entry
+  pub keeps : KeepsApart len page_kind page_link (prefix_len (is_below v) es) es a page
+
 -- closed, the page has a tuple that is not below this vid, or none comes after it
 abbrev pub EndsHere : ℕ → List ℕ → Type 0
 EndsHere v page = (prefix_len (is_below v) (tuples_of page) < length (tuples_of page)) ⊎ (link_of page ≡ 0)
@@ -35,6 +43,12 @@ pub record PutsApart (e : Entry) (a a' : Apart) (old new : List ℕ) : Type 0 wh
   pub next : IsOpenFrom (e.key + 1) a' new
   pub turned : Turned (placed e) (closed a old) (closed a' new)
   pub ends : EndsHere e.key (closed a old)
+
+-- the vertex of a vid was given out of a page that closed is this one, and the vid lies there for certain
+pub record GivesApart (v : ℕ) (there : Bool) (x : Vertex) (page : List ℕ) : Type 0 where
+  pub ends : EndsHere v page
+  pub found : (low : ℕ) (xs : List Piece) → AreKeys low (tuples_of page) xs → AreItems (length page) (tuples_of page)
+      → (there ≡ is_some (lookup v (items (tuples_of page)))) × (x ≡ vertex_or_fresh (lookup v (items (tuples_of page))))
 
 -- the closed page of an open leaf
 abbrev pub closed_in : OpenLeaf → CacheView → List ℕ
@@ -64,6 +78,11 @@ pub record PutsOpen (e : Entry) (file : ℕ) (o o' : OpenLeaf) (c c' : CacheView
   pub shut : shut o' c' ≡ written_frame c o.frame page
   pub turned : Turned (placed e) (closed_in o c) page
   pub ends : EndsHere e.key (closed_in o c)
+
+-- the vertex of a vid was given out of an open leaf, in which the vid lies for certain
+pub record GivesOpen (v : ℕ) (there : Bool) (x : Vertex) (o : OpenLeaf) (c : CacheView) : Type 0 where
+  pub whole : length c.notes ≡ length c.frames
+  pub given : GivesApart v there x (closed_in o c)
 
 -- the page that a frame holds was opened at a place: where a writer made it, it is open there, and closed it is what it was
 pub record OpensAt (file : ℕ) (m : Mark) (o : OpenLeaf) (c c' : CacheView) : Type 0 where

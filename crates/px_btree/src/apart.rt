@@ -1,21 +1,23 @@
 // Edits of one page while a part of its tuples is kept apart: those before byte `at` stand in front as ever, the others at the very end of the frame,
 // from byte `back` on, and what lies between holds any bytes. So a put between them moves no tuple. The header is that of the closed page.
-ghost use Rattle.std.specs.Prelude.{◌≡◌, ◌≤◌, ◌<◌, ◌+◌, ◌-◌, ◌↔◌, ◌∷◌, ◌++◌, ℕ, List, length, take, drop, IsTrue, IsFalse, IfSome, IfNone};
+ghost use Rattle.std.specs.Prelude.{◌≡◌, ◌≤◌, ◌<◌, ◌+◌, ◌-◌, ◌↔◌, ◌∷◌, ◌++◌, ℕ, List, length, take, drop, slice_get, Some, IsTrue, IsFalse, IfSome, IfNone};
 ghost use Rattle.std.specs.List.{prefix_len, copy_within};
 ghost use Rattle.byteorder.specs.Endian.{big_bytes};
 ghost use Rattle.px_pages.specs.Entry.{Entry, IsEntry, AreEntries, entry, entry_bytes, bytes_of, size_of};
 ghost use Rattle.px_meaning.specs.Graph.{front_len};
-ghost use Rattle.px_pages.specs.Page.{IsPageLen, IsMade, writer_of, zeros};
+ghost use Rattle.px_pages.specs.Page.{IsPageLen, IsMade, writer_of, entry_of, zeros};
 ghost use Rattle.px_pages.specs.Place.{IsPlace, is_below};
 ghost use Rattle.px_btree.specs.Put.{placed, IsFullFor};
 ghost use Rattle.px_btree.specs.Apart.{Within, KeepsApart, closed, below_len, same_len};
 
 use byteorder::{BigEndian, ByteOrder};
 use px_core::Vid;
-use px_pages::{Place, count, put_counts, put_entry, used};
+use px_pages::{Place, Tuple, count, put_counts, put_entry, used};
 
-// The bytes of a tuple before its body, and where its length stands among them.
+// The bytes of a tuple before its body, and where its tag and its length stand among them.
 const FRONT: usize = 13;
+
+const TAG: usize = 8;
 
 const LENGTH: usize = 9;
 
@@ -83,6 +85,26 @@ fn skip(page: &[u8], at: usize, key: Vid) -> usize
     }
 }
 
+// The tuple that begins at a byte, if it has this key.
+fn tuple_in(page: &[u8], at: usize, key: Vid) -> Option<Tuple>
+    requires at { at ≤ length page.now }
+    requires page { IsPageLen (length page.now) }
+    ensures some { IfSome result (λ t. (es : List Entry) → AreEntries es → drop at page.now ≡ bytes_of es → slice_get es 0 ≡ Some (entry_of t page.now)) }
+    ensures key { IfSome result (λ t. t.key ≡ key) }
+    ensures none { IfNone result ((es : List Entry) (e : Entry) → AreEntries es → drop at page.now ≡ bytes_of es → slice_get es 0 ≡ Some e → e.key ≡ key → ⊥) }
+    ensures within { IfSome result (λ t. t.at + t.len ≤ length page.now) }
+{
+    match head_at(page, at) {
+        Some(head) if head.key == key => Some(Tuple {
+            key,
+            tag: page[at + TAG],
+            at: (at + FRONT) as u32,
+            len: (head.end - at - FRONT) as u32,
+        }),
+        _ => None,
+    }
+}
+
 // Moves what stands from `start` to `end`, so that it begins at `at`.
 fn shift(page: &mut [u8], start: usize, end: usize, at: usize)
     requires order { start ≤ end }
@@ -141,6 +163,20 @@ impl Apart {
         shift(page, back, to, self.at as usize);
         self.at += (to - back) as u32;
         self.back = to as u32;
+    }
+
+    /// The first of the tuples that are kept apart, if it has this key.
+    pub(crate) fn first(self, page: &[u8], key: Vid) -> Option<Tuple>
+        requires { IsPageLen (length page.now) }
+        ensures some { IfSome result (λ t. (len kind link i : ℕ) (es : List Entry) → KeepsApart len kind link i es self page.now → slice_get es i ≡ Some (entry_of t page.now)) }
+        ensures key { IfSome result (λ t. t.key ≡ key) }
+        ensures none { IfNone result ((len kind link i : ℕ) (es : List Entry) (e : Entry) → KeepsApart len kind link i es self page.now → slice_get es i ≡ Some e → e.key ≡ key → ⊥) }
+        ensures within { IfSome result (λ t. t.at + t.len ≤ length page.now) }
+    {
+        if !self.is_within(page.len()) {
+            return None;
+        }
+        tuple_in(page, self.back as usize, key)
     }
 
     /// Puts a tuple behind those whose keys are below its key, in the place of one with its key.

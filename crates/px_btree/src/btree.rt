@@ -1,14 +1,14 @@
 // The tree that its callers see: a closed tree, and a leaf of it that may be open.
-ghost use Rattle.std.specs.Prelude.{◌≡◌, ◌≤◌, ◌<◌, ◌+◌, ◌^◌, ℕ, true, None, IsTrue, IsFalse, IfSome};
+ghost use Rattle.std.specs.Prelude.{◌≡◌, ◌≤◌, ◌<◌, ◌+◌, ◌^◌, ℕ, true, None, is_some, IsTrue, IsFalse, IfSome};
 ghost use Rattle.px_core.specs.Shown.{Shown};
-ghost use Rattle.px_meaning.specs.Graph.{Graph, put as put_item, room_of};
+ghost use Rattle.px_meaning.specs.Graph.{Graph, fresh, lookup, vertex_or_fresh, put as put_item, room_of};
 ghost use Rattle.px_pages.specs.Page.{IsPageLen};
-ghost use Rattle.px_store.specs.Desks.{IsReady, IsDone, SameDesk};
+ghost use Rattle.px_store.specs.Desks.{IsReady, IsDone, SameDesk, SameRoom};
 ghost use Rattle.px_btree.specs.Tree.{TreeView, IsHeld, started_in};
 ghost use Rattle.px_btree.specs.Scan.{IsScan, unread};
 ghost use Rattle.px_btree.specs.Open.{IsStored, IsStoredScan};
 
-use crate::open_leaf::{OpenLeaf, close_leaf, open_leaf, put_leaf};
+use crate::open_leaf::{OpenLeaf, close_leaf, get_leaf, open_leaf, put_leaf};
 use crate::tree::{ClosedTree, Mark};
 use px_core::Vid;
 use px_record::VertexBuf;
@@ -21,6 +21,8 @@ use std::marker::Model;
 pub struct BTree {
     pub(crate) tree: ClosedTree,
     pub(crate) leaf: Option<OpenLeaf>,
+    // The place of the last put into the closed tree.
+    pub(crate) last_put: Option<Mark>,
 }
 
 impl Model for BTree {
@@ -31,7 +33,7 @@ impl Model for BTree {
     ghost view = { λ t. record { tree = t.tree; leaf = t.leaf } };
 }
 
-// Whether a put of a vid goes on in a leaf from the place of the call before, and its tuple takes other bytes than the one that stood there.
+// Whether a put of a vid goes on in a leaf from the place of the put before, and its tuple takes other bytes than the one that stood there.
 fn grows(before: Option<Mark>, mark: Mark, len: usize) -> bool {
     let same = match mark.place.tuple {
         Some(t) => t.key == mark.key && t.len as usize == len,
@@ -54,6 +56,7 @@ impl BTree {
         BTree {
             tree: ClosedTree::open(partition),
             leaf: None,
+            last_put: None,
         }
     }
 
@@ -112,18 +115,52 @@ impl BTree {
         }
     }
 
-    // The place of the last call, if it put other bytes behind the place of the call before.
-    fn grown(&self, before: Option<Mark>, len: usize) -> Option<Mark>
-        ensures { IfSome result (λ m. self.now.tree.mark ≡ Some m) }
+    /// Gives the vertex of a vid out of the leaf that is open, or the fresh one where it is not there, if the vid lies there for certain. It reads nothing.
+    pub(crate) fn get_open(
+        &mut self,
+        desk: &mut Desk,
+        vid: Vid,
+        into: &mut VertexBuf,
+    ) -> Option<bool>
+        requires page { IsPageLen desk.old.cache.len }
+        requires room { into.old.room ≡ room_of desk.old.cache.len }
+        ensures found { IfSome result (λ b. (s : Shown) (l : Graph) → IsStored self.old desk.old s l → (b ≡ is_some (lookup vid l)) × (into.new.vertex ≡ vertex_or_fresh (lookup vid l))) }
+        ensures vid { IfSome result (λ b. into.new.vid ≡ vid) }
+        ensures fresh { IfSome result (λ b. IsFalse b → into.new.vertex ≡ fresh) }
+        ensures into { SameRoom into.old into.new }
+        ensures holds { (s : Shown) (l : Graph) → IsStored self.old desk.old s l → IsStored self.new desk.new s l }
+        ensures scans { (s : Shown) (a b : Graph) → IsStoredScan self.old desk.old s a b → IsStoredScan self.new desk.new s a b }
+        ensures tree { self.new.tree ≡ self.old.tree }
+        ensures desk { SameDesk desk.old desk.new }
+        ensures done { (s : Shown) → IsReady true self.old.tree.part desk.old s → IsDone true self.old.tree.part desk.old s desk.new s }
     {
+        let file = self.tree.file();
+        match self.leaf_for(vid) {
+            None => None,
+            Some(leaf) => {
+                let mut leaf = leaf;
+                let given = get_leaf(&mut desk.cache, file, &mut leaf, vid, into);
+                self.leaf = Some(leaf);
+                given
+            }
+        }
+    }
+
+    // The place of a put that has just been made, if it put other bytes behind the place of the put before.
+    fn grown(&mut self, len: usize) -> Option<Mark>
+        ensures mark { IfSome result (λ m. self.new.tree.mark ≡ Some m) }
+        ensures same { self.new ≡ self.old }
+    {
+        let before = self.last_put;
+        self.last_put = self.tree.mark;
         match self.tree.mark {
             Some(mark) if grows(before, mark, len) => Some(mark),
             _ => None,
         }
     }
 
-    /// Opens the leaf of the last call, if that put a body of so many bytes behind the place of the call before, and the bytes are others.
-    pub(crate) fn open_grown(&mut self, desk: &mut Desk, before: Option<Mark>, len: usize)
+    /// Opens the leaf of the last call, if that put a body of so many bytes behind the place of the put before, and the bytes are others.
+    pub(crate) fn open_grown(&mut self, desk: &mut Desk, len: usize)
         requires page { IsPageLen desk.old.cache.len }
         requires none { self.old.leaf ≡ None }
         ensures holds { (s : Shown) (l : Graph) → IsHeld self.old.tree desk.old s l → IsStored self.new desk.new s l }
@@ -132,7 +169,7 @@ impl BTree {
         ensures done { (s : Shown) → IsReady true self.old.tree.part desk.old s → IsDone true self.old.tree.part desk.old s desk.new s }
     {
         let file = self.tree.file();
-        if let Some(mark) = self.grown(before, len) {
+        if let Some(mark) = self.grown(len) {
             self.leaf = open_leaf(&mut desk.cache, file, mark);
             desk.owner = Some(self.tree.part);
         }

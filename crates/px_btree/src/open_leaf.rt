@@ -1,19 +1,23 @@
 // The open leaf of a tree: a page in a frame of the cache whose tuples are kept apart while calls ascend in it. Nothing here calls the disk.
 ghost use Rattle.std.specs.Prelude.{◌≡◌, ◌≤◌, ◌<◌, ◌⊎◌, ◌+◌, ◌^◌, ℕ, List, [], ◌∷◌, length, slice_index_or, IsTrue, IsFalse, IfSome, IfNone};
 ghost use Rattle.px_core.specs.Shown.{Shown};
+ghost use Rattle.px_meaning.specs.Graph.{fresh, room_of};
 ghost use Rattle.px_pages.specs.Entry.{Entry, entry};
 ghost use Rattle.px_pages.specs.Page.{IsPageLen, IsMade, writer_of, link_of};
 ghost use Rattle.px_pages.specs.Place.{IsFront};
 ghost use Rattle.px_cache.specs.View.{Holds, OthersShown, SameCache};
 ghost use Rattle.px_btree.specs.Apart.{closed};
 ghost use Rattle.px_btree.specs.Scan.{is_held};
-ghost use Rattle.px_btree.specs.Open.{IsOpenFrom, EndsHere, PutsApart, IsLeafIn, IsAlone, PutsOpen, OpensAt, shut};
+ghost use Rattle.px_store.specs.Desks.{SameRoom};
+ghost use Rattle.px_btree.specs.Open.{IsOpenFrom, PartsAt, EndsHere, PutsApart, GivesApart, IsLeafIn, IsAlone, PutsOpen, GivesOpen, OpensAt, shut};
 
 use crate::apart::Apart;
+use crate::leaf::take_apart;
 use crate::tree::Mark;
 use px_cache::Cache;
 use px_core::Vid;
 use px_pages::{find_from, link, tags};
+use px_record::VertexBuf;
 
 /// A leaf that is open: its frame, the place at which it was opened, the least vid that may come next, and how its tuples are kept apart.
 #[derive(Clone, Copy)]
@@ -36,6 +40,7 @@ fn ends_here(page: &[u8], apart: Apart) -> bool
 fn reach(page: &mut [u8], apart: &mut Apart, vid: Vid) -> bool
     requires { IsPageLen (length page.old) }
     ensures next { (from : ℕ) → from ≤ vid → IsOpenFrom from apart.old page.old → IsOpenFrom vid apart.new page.new }
+    ensures parts { (from : ℕ) → from ≤ vid → IsOpenFrom from apart.old page.old → PartsAt vid apart.new page.new }
     ensures ends { IsTrue result → (from : ℕ) → from ≤ vid → IsOpenFrom from apart.old page.old → EndsHere vid (closed apart.old page.old) }
     ensures same { closed apart.new page.new ≡ closed apart.old page.old }
 {
@@ -54,6 +59,23 @@ fn put_apart(page: &mut [u8], apart: &mut Apart, vid: Vid, tag: u8, body: &[u8])
         return false;
     }
     apart.put(page, vid, tag, body)
+}
+
+// Gives the vertex of a vid out of an open page, if the vid lies there for certain.
+fn get_apart(page: &mut [u8], apart: &mut Apart, vid: Vid, into: &mut VertexBuf) -> Option<bool>
+    requires page { IsPageLen (length page.old) }
+    requires room { into.old.room ≡ room_of (length page.old) }
+    ensures given { IfSome result (λ b. (from : ℕ) → from ≤ vid → IsOpenFrom from apart.old page.old → GivesApart vid b into.new.vertex (closed apart.old page.old)) }
+    ensures next { (from : ℕ) → from ≤ vid → IsOpenFrom from apart.old page.old → IsOpenFrom vid apart.new page.new }
+    ensures same { closed apart.new page.new ≡ closed apart.old page.old }
+    ensures vid { IfSome result (λ b. into.new.vid ≡ vid) }
+    ensures fresh { IfSome result (λ b. IsFalse b → into.new.vertex ≡ fresh) }
+    ensures into { SameRoom into.old into.new }
+{
+    if !reach(page, apart, vid) {
+        return None;
+    }
+    Some(take_apart(page, *apart, vid, into))
 }
 
 // The frame of an open leaf, if it holds it.
@@ -115,6 +137,38 @@ pub(crate) fn put_leaf(
             let done = put_apart(page, &mut leaf.apart, vid, tags::VERTEX, body);
             leaf.from = next_of(vid, done);
             done
+        }
+    }
+}
+
+/// Gives the vertex of a vid out of an open leaf, or the fresh one where it is not there, if the vid lies there for certain.
+pub(crate) fn get_leaf(
+    cache: &mut Cache,
+    file: u32,
+    leaf: &mut OpenLeaf,
+    vid: Vid,
+    into: &mut VertexBuf,
+) -> Option<bool>
+    requires page { IsPageLen cache.old.len }
+    requires order { leaf.old.from ≤ vid }
+    requires room { into.old.room ≡ room_of cache.old.len }
+    ensures given { IfSome result (λ b. IsLeafIn file leaf.old cache.old → IsAlone file leaf.old cache.old → GivesOpen vid b into.new.vertex leaf.old cache.old) }
+    ensures leaf { IsLeafIn file leaf.old cache.old → IsAlone file leaf.old cache.old → IsLeafIn file leaf.new cache.new }
+    ensures same { IsLeafIn file leaf.old cache.old → IsAlone file leaf.old cache.old → shut leaf.new cache.new ≡ shut leaf.old cache.old }
+    ensures mark { leaf.new.mark ≡ leaf.old.mark }
+    ensures vid { IfSome result (λ b. into.new.vid ≡ vid) }
+    ensures fresh { IfSome result (λ b. IsFalse b → into.new.vertex ≡ fresh) }
+    ensures into { SameRoom into.old into.new }
+    ensures others { (s : Shown) → OthersShown file cache.old s cache.new s }
+    ensures stays { SameCache cache.old cache.new }
+{
+    match frame_of(cache, file, *leaf) {
+        None => None,
+        Some(i) => {
+            let page = cache.frame_mut(i);
+            let given = get_apart(page, &mut leaf.apart, vid, into);
+            leaf.from = vid;
+            given
         }
     }
 }

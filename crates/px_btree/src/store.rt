@@ -63,6 +63,9 @@ impl Store for BTree {
         vid: Vid,
         into: &mut VertexBuf,
     ) -> Result<bool, Stop> {
+        if let Some(there) = self.get_open(desk, vid, into) {
+            return Ok(there);
+        }
         self.close(desk);
         self.tree.get(disk, desk, vid, into)
     }
@@ -72,9 +75,8 @@ impl Store for BTree {
             return Ok(());
         }
         self.close(desk);
-        let before = self.tree.mark;
         self.tree.put(disk, desk, v)?;
-        self.open_grown(desk, before, v.body().len());
+        self.open_grown(desk, v.body().len());
         Ok(())
     }
 

@@ -1,4 +1,4 @@
-// What no clause says: passes of puts that grow leave a leaf open between them, whatever calls come between, compared with a list of lengths.
+// What no clause says: passes of puts that grow leave a leaf open between them, whatever calls come between, compared with a list of lengths; and gets in it leave it open.
 ghost use Rattle.std.specs.Prelude.{◌≡◌, ◌<◌, ◌≤◌, ℕ, length, true, None, OnOk, IfOk};
 ghost use Rattle.px_core.specs.Shown.{Shown};
 ghost use Rattle.px_meaning.specs.Graph.{room_of};
@@ -150,8 +150,10 @@ struct Way {
     step: u64,
     // A value of so many bytes is put.
     len: u8,
-    // The vid is got before the put, each so many vids.
+    // Before the put, each so many vids, the vid is got that is so much smaller or greater.
     get: u64,
+    back: u64,
+    ahead: u64,
     // The vid is removed that is so much smaller or greater, each so many vids.
     remove: u64,
     less: u64,
@@ -173,7 +175,8 @@ fn visit<St: Store, D: Disk>(
     ensures ready { OnOk result (IsReady St.counted (St.part store.new) desk.new (D.shown disk.new)) }
     ensures room { OnOk result (v.new.room ≡ room_of (D.shown disk.new).page_len) }
 {
-    let good = vid % way.get.max(1) > 0 || agrees_at(store, disk, desk, v, lens, vid as usize)?;
+    let asked = vid.saturating_sub(way.back).wrapping_add(way.ahead);
+    let good = vid % way.get.max(1) > 0 || agrees_at(store, disk, desk, v, lens, asked as usize)?;
     put_len(store, disk, desk, v, lens, vid as usize, way.len)?;
     if vid % way.remove.max(1) == 0 {
         let other = vid.saturating_sub(way.less).wrapping_add(way.more);
@@ -207,6 +210,25 @@ fn pass<St: Store, D: Disk>(
         }
     }
     Ok(agrees(store, disk, desk, v, lens)? && good)
+}
+
+// Passes in all these ways over a store that was made empty.
+fn start_and_pass<St: Store, D: Disk>(
+    store: &mut St,
+    disk: &mut D,
+    desk: &mut Desk,
+    v: &mut VertexBuf,
+    lens: &mut [u8],
+    ways: &[Way],
+) -> Result<bool, Stop>
+    requires ready { IsReady St.counted (St.part store.old) desk.old (D.shown disk.old) }
+    requires room { v.old.room ≡ room_of (D.shown disk.old).page_len }
+    ensures ready { OnOk result (IsReady St.counted (St.part store.new) desk.new (D.shown disk.new)) }
+    ensures room { OnOk result (v.new.room ≡ room_of (D.shown disk.new).page_len) }
+{
+    store.start(disk, desk)?;
+    store.bulk_end(disk, desk)?;
+    pass_all(store, disk, desk, v, lens, ways)
 }
 
 // Makes a store empty, and leaves the desk to others.
@@ -248,6 +270,8 @@ const WAYS: &[Way] = &[
         step: 2,
         len: 2,
         get: 90,
+        back: 0,
+        ahead: 0,
         remove: 90,
         less: 0,
         more: 60,
@@ -256,6 +280,8 @@ const WAYS: &[Way] = &[
         step: 1,
         len: 5,
         get: 90,
+        back: 0,
+        ahead: 0,
         remove: 90,
         less: 0,
         more: 60,
@@ -264,6 +290,8 @@ const WAYS: &[Way] = &[
         step: 1,
         len: 9,
         get: 1,
+        back: 0,
+        ahead: 0,
         remove: 90,
         less: 0,
         more: 60,
@@ -272,6 +300,8 @@ const WAYS: &[Way] = &[
         step: 1,
         len: 20,
         get: 3,
+        back: 0,
+        ahead: 0,
         remove: 7,
         less: 3,
         more: 0,
@@ -280,6 +310,8 @@ const WAYS: &[Way] = &[
         step: 3,
         len: 64,
         get: 90,
+        back: 0,
+        ahead: 0,
         remove: 90,
         less: 0,
         more: 60,
@@ -288,6 +320,8 @@ const WAYS: &[Way] = &[
         step: 1,
         len: 13,
         get: 90,
+        back: 0,
+        ahead: 0,
         remove: 5,
         less: 0,
         more: 2,
@@ -296,6 +330,8 @@ const WAYS: &[Way] = &[
         step: 2,
         len: 30,
         get: 2,
+        back: 0,
+        ahead: 0,
         remove: 4,
         less: 0,
         more: 0,
@@ -304,6 +340,92 @@ const WAYS: &[Way] = &[
         step: 1,
         len: 1,
         get: 90,
+        back: 0,
+        ahead: 0,
+        remove: 90,
+        less: 0,
+        more: 60,
+    },
+];
+
+// Passes of a get and a put by turns: of vids that are there, between them, behind the last of a leaf and of all.
+const TURNS: &[Way] = &[
+    Way {
+        step: 2,
+        len: 2,
+        get: 90,
+        back: 0,
+        ahead: 0,
+        remove: 90,
+        less: 0,
+        more: 60,
+    },
+    Way {
+        step: 2,
+        len: 4,
+        get: 1,
+        back: 1,
+        ahead: 0,
+        remove: 90,
+        less: 0,
+        more: 60,
+    },
+    Way {
+        step: 2,
+        len: 8,
+        get: 1,
+        back: 0,
+        ahead: 0,
+        remove: 90,
+        less: 0,
+        more: 60,
+    },
+    Way {
+        step: 3,
+        len: 12,
+        get: 1,
+        back: 0,
+        ahead: 0,
+        remove: 90,
+        less: 0,
+        more: 60,
+    },
+    Way {
+        step: 2,
+        len: 15,
+        get: 1,
+        back: 0,
+        ahead: 1,
+        remove: 90,
+        less: 0,
+        more: 60,
+    },
+    Way {
+        step: 1,
+        len: 20,
+        get: 1,
+        back: 0,
+        ahead: 0,
+        remove: 11,
+        less: 0,
+        more: 3,
+    },
+    Way {
+        step: 1,
+        len: 24,
+        get: 2,
+        back: 3,
+        ahead: 0,
+        remove: 90,
+        less: 0,
+        more: 60,
+    },
+    Way {
+        step: 4,
+        len: 40,
+        get: 1,
+        back: 0,
+        ahead: 2,
         remove: 90,
         less: 0,
         more: 60,
@@ -317,6 +439,7 @@ fn pass_all<St: Store, D: Disk>(
     desk: &mut Desk,
     v: &mut VertexBuf,
     lens: &mut [u8],
+    ways: &[Way],
 ) -> Result<bool, Stop>
     requires ready { IsReady St.counted (St.part store.old) desk.old (D.shown disk.old) }
     requires room { v.old.room ≡ room_of (D.shown disk.old).page_len }
@@ -324,7 +447,7 @@ fn pass_all<St: Store, D: Disk>(
     ensures room { OnOk result (v.new.room ≡ room_of (D.shown disk.new).page_len) }
 {
     let mut good = true;
-    for &way in WAYS {
+    for &way in ways {
         good = pass(store, disk, desk, v, lens, way)? && good;
     }
     Ok(good)
@@ -351,17 +474,84 @@ fn put_both<St: Store, D: Disk>(
     Ok(())
 }
 
-#[test]
-fn passes_that_grow_are_those_of_a_list(rt: HostRuntime) -> Result<(), Fail> {
-    let mut disk = MemDisk::new(rt.alloc(), &[])?;
+// Passes in all these ways over an empty tree, where these calls of the disk fail.
+fn passes(alloc: Global, fails: &[u64], ways: &[Way]) -> Result<Result<bool, Stop>, Fail> {
+    let mut disk = MemDisk::new(alloc, fails)?;
     disk.start(256)?;
-    let mut desk = open_desk(rt.alloc())?;
-    let mut v = open_vertex(rt.alloc())?;
+    let mut desk = open_desk(alloc)?;
+    let mut v = open_vertex(alloc)?;
     let mut tree = BTree::open(0);
     let mut lens = [0; VIDS];
-    tree.start(&mut disk, &mut desk)?;
-    tree.bulk_end(&mut disk, &mut desk)?;
-    assert!(rt; pass_all(&mut tree, &mut disk, &mut desk, &mut v, &mut lens)?);
+    Ok(start_and_pass(&mut tree, &mut disk, &mut desk, &mut v, &mut lens, ways))
+}
+
+// Each call of the disk fails in turn, until none does.
+fn first_that_works(alloc: Global) -> Result<u64, Fail> {
+    for fail in 2..10_000 {
+        match passes(alloc, &[fail], TURNS)? {
+            Ok(true) => return Ok(fail),
+            Ok(false) => return Ok(0),
+            Err(Stop::Graph) => {}
+            Err(_) => return Ok(1),
+        }
+    }
+    Ok(2)
+}
+
+#[test]
+fn passes_that_grow_are_those_of_a_list(rt: HostRuntime) -> Result<(), Fail> {
+    assert_eq!(rt; passes(rt.alloc(), &[], WAYS)?, Ok(true));
+    assert_eq!(rt; passes(rt.alloc(), &[], TURNS)?, Ok(true));
+    Ok(())
+}
+
+#[test]
+fn each_call_fails_in_turn_where_gets_and_puts_take_turns(rt: HostRuntime) -> Result<(), Fail> {
+    let calls = first_that_works(rt.alloc())?;
+    assert!(rt; calls > 100, "{calls}");
+    Ok(())
+}
+
+// Opens a leaf with the vids 1, 5 and 7 at the second, and gets a vid. Answers whether that is as it was put, and the leaf is open then.
+fn get_in<D: Disk>(
+    tree: &mut BTree,
+    disk: &mut D,
+    desk: &mut Desk,
+    v: &mut VertexBuf,
+    vid: usize,
+) -> Result<(bool, bool), Stop>
+    requires ready { IsReady true tree.old.tree.part desk.old (D.shown disk.old) }
+    requires room { v.old.room ≡ room_of (D.shown disk.old).page_len }
+{
+    let mut lens = [0; VIDS];
+    tree.start(disk, desk)?;
+    tree.bulk_end(disk, desk)?;
+    put_len(tree, disk, desk, v, &mut lens, 1, 1)?;
+    put_len(tree, disk, desk, v, &mut lens, 5, 1)?;
+    put_len(tree, disk, desk, v, &mut lens, 7, 1)?;
+    put_len(tree, disk, desk, v, &mut lens, 1, 2)?;
+    put_len(tree, disk, desk, v, &mut lens, 5, 2)?;
+    let good = agrees_at(tree, disk, desk, v, &lens, vid)?;
+    Ok((good, tree.leaf.is_some()))
+}
+
+// The same over a tree of its own.
+fn open_after(alloc: Global, vid: usize) -> Result<Result<(bool, bool), Stop>, Fail> {
+    let mut disk = MemDisk::new(alloc, &[])?;
+    disk.start(256)?;
+    let mut desk = open_desk(alloc)?;
+    let mut v = open_vertex(alloc)?;
+    let mut tree = BTree::open(0);
+    Ok(get_in(&mut tree, &mut disk, &mut desk, &mut v, vid))
+}
+
+#[test]
+fn a_get_at_or_behind_the_last_put_leaves_the_leaf_open(rt: HostRuntime) -> Result<(), Fail> {
+    assert_eq!(rt; open_after(rt.alloc(), 4)?, Ok((true, false)));
+    assert_eq!(rt; open_after(rt.alloc(), 5)?, Ok((true, true)));
+    assert_eq!(rt; open_after(rt.alloc(), 6)?, Ok((true, true)));
+    assert_eq!(rt; open_after(rt.alloc(), 7)?, Ok((true, true)));
+    assert_eq!(rt; open_after(rt.alloc(), 1000)?, Ok((true, true)));
     Ok(())
 }
 
