@@ -1,5 +1,5 @@
 -- What was added, and what is still to be read, are the whole; and so with what was given and what is still to be given.
-use Rattle.std.proofs.Common.{◌≡◌, ℕ, List, [], ◌∷◌, ◌++◌, IsTrue, sym, ◌∙◌, ap, append_assoc, subst, refl}
+use Rattle.std.proofs.Common.{◌≡◌, ℕ, ◌+◌, ◌-◌, ◌^◌, min, List, [], ◌∷◌, ◌++◌, length, length-append, IsTrue, sym, ◌∙◌, ap, append_assoc, subst, refl, arith}
 use Rattle.std.proofs.lemmas.Bool.{and_parts, and_from}
 use Rattle.std.proofs.lemmas.List.{append-nil, map-append}
 use Rattle.px_core.specs.Shown.{Shown, Only}
@@ -111,3 +111,31 @@ pub giving_end : (G : Pairs → Type 0) (a b : Shown) (w : WriterView) (l : List
 giving_end G a b w l rest t none i =
     let all : rest ≡ i.done = i.all ∙ ap (λ (x : Pairs). i.done ++ x) (none i.more i.gives) ∙ append-nil i.done in
     subst (λ (x : Pairs). Took b w (l ++ message_tuples x)) (sym all) (took_same a b w (l ++ message_tuples i.done) t i.took)
+
+-- so many pairs were given
+pub record Counting (G : Pairs → Type 0) (n : ℕ) (rest : Pairs) : Type 0 where
+  pub done : Pairs
+  pub more : Pairs
+  pub gives : G more
+  pub all : rest ≡ done ++ more
+  pub count : n ≡ min (length done) (2 ^ 64 - 1)
+
+pub counting_first : (G : Pairs → Type 0) (rest : Pairs) → G rest → Counting G 0 rest
+counting_first G rest gives = record { done = []; more = rest; gives = gives; all = refl; count = refl }
+
+pub counting_next : (G G' G'' : Pairs → Type 0) (v : ℕ) (bytes : List ℕ) (n n' : ℕ) (rest : Pairs) → ((k : Pairs) → G k → LeadsPair v bytes k G') → ((k : Pairs) → G' k → G'' k) → n' ≡ min (n + 1) (2 ^ 64 - 1)
+    → Counting G n rest → Counting G'' n' rest
+counting_next G G' G'' v bytes n n' rest gives same more i =
+    let lead = gives i.more i.gives in
+    record {
+      done = i.done ++ (v, bytes) ∷ [];
+      more = lead.rest;
+      gives = same lead.rest lead.after;
+      all = i.all ∙ ap (λ (x : Pairs). i.done ++ x) lead.is ∙ sym (append_assoc i.done ((v, bytes) ∷ []) lead.rest);
+      count = omega (arith, more, i.count, length-append i.done ((v, bytes) ∷ []));
+    }
+
+pub counting_end : (G : Pairs → Type 0) (n : ℕ) (rest : Pairs) → ((k : Pairs) → G k → k ≡ []) → Counting G n rest → n ≡ min (length rest) (2 ^ 64 - 1)
+counting_end G n rest none i =
+    let all : rest ≡ i.done = i.all ∙ ap (λ (x : Pairs). i.done ++ x) (none i.more i.gives) ∙ append-nil i.done in
+    subst (λ (x : Pairs). n ≡ min (length x) (2 ^ 64 - 1)) (sym all) i.count

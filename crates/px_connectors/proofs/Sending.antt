@@ -1,43 +1,123 @@
--- One sender is begun, goes on or is finished, and what the others sent stays.
-use Rattle.std.proofs.Common.{◌≡◌, ◌≢◌, ◌<◌, ℕ, ◌+◌, ◌*◌, List, [], sym, subst, refl, arith, length}
-use Rattle.std.specs.Prelude.{slice_index_or, slice_set}
-use Rattle.std.proofs.lemmas.List.{get_or-set_same}
-use Rattle.px_core.specs.Same.{Apart}
-use Rattle.px_core.specs.Shown.{Shown, Touches}
+-- A plain connector sends or receives, and what its finished senders sent stays.
+use Rattle.std.proofs.Common.{◌≡◌, ◌≢◌, ◌<◌, ◌≤◌, ℕ, ◌+◌, ◌*◌, List, [], sym, ◌∙◌, subst, refl, arith, inl, inr, length}
+use Rattle.std.specs.Prelude.{Option, Some, None, IfSome, IfNone, slice_index_or, slice_set}
+use Rattle.std.proofs.lemmas.List.{get_or-set_same, get_or-set_other}
+use Rattle.px_core.specs.Same.{Same, Apart}
+use Rattle.px_core.specs.Shown.{Shown, Touches, NoFile}
 use Rattle.px_core.proofs.Keeping.{same_by_touches}
 use Rattle.px_meaning.specs.Merge.{Pairs}
-use Rattle.px_connectors.specs.Writers.{WritersView, parts_in, HoldParts, SameWriters}
-use Rattle.px_connectors.specs.Views.{view_of, IsSenderFile, HasSent}
+use Rattle.px_program.specs.Groups.{LeadsPair, GroupMade, IsOwn}
+use Rattle.px_connectors.specs.Files.{OwnOr}
 use Rattle.px_connectors.specs.Frames.{hold_parts_same}
+use Rattle.px_connectors.specs.Receiving.{GiveAll, AreReaders, FilesHold, all_left}
+use Rattle.px_connectors.specs.Sides.{PartitioningView, OfWriters, OfReaders, AreSending, AreReceiving, OnOneSide, HasSent, left_to_give}
+use Rattle.px_connectors.specs.Views.{IsSenderFile, IsConnectorFile, at}
+use Rattle.px_connectors.specs.Writers.{WritersView, AreWriters, parts_in, HoldParts, SameWriters}
+use Rattle.px_connectors.specs.declared.readers.PartReaders.{PartReaders}
 
 senders_apart : (p q : ℕ) → p ≢ q → Apart (IsSenderFile p) (IsSenderFile q)
 senders_apart p q other f a b = other (omega (arith, a.low, a.high, b.low, b.high))
 
--- another sender's list stays
-pub sent_other : (size size' frames frames' : ℕ) (v v' : WritersView) (sender sender' q p : ℕ) (pages pages' : List (List ℕ)) (s t : Shown) (l : Pairs) → p ≢ q → parts_in v' ≡ parts_in v
-    → slice_index_or pages' p [] ≡ slice_index_or pages p [] → Touches (IsSenderFile q) s t
-    → HasSent (record { size = size; frames = frames; writers = v; sender = sender; pages = pages }) s p l → HasSent (record { size = size'; frames = frames'; writers = v'; sender = sender'; pages = pages' }) t p l
-sent_other size size' frames frames' v v' sender sender' q p pages pages' s t l other parts rows touches sent =
-    let same = same_by_touches (IsSenderFile p) (IsSenderFile q) s t (senders_apart p q other) touches in
-    let held = hold_parts_same s t 0 (256 + 16 * p) (parts_in v) (slice_index_or pages p []) l same sent.holds in
+pub sender_file : (p : ℕ) → p < 16 → (f : ℕ) → IsSenderFile p f → IsConnectorFile f
+sender_file p lt f a = record { low = omega (arith, a.low); high = omega (arith, a.high, lt) }
+
+-- what a sender sent stays where its files do, and the numbers of their pages
+pub sent_kept : (c d : PartitioningView) (s t : Shown) (p : ℕ) (l : Pairs) → d.parts ≡ c.parts → slice_index_or d.pages p [] ≡ slice_index_or c.pages p [] → Same (IsSenderFile p) s t → HasSent c s p l → HasSent d t p l
+sent_kept c d s t p l parts row same sent =
+    let held = hold_parts_same s t 0 (256 + 16 * p) c.parts (slice_index_or c.pages p []) l same sent.holds in
     record {
       below = subst (λ (n : ℕ). p < n) (sym parts) sent.below;
-      holds = subst (λ (n : ℕ). HoldParts t 0 (256 + 16 * p) n (slice_index_or pages' p []) l) (sym parts)
-          (subst (λ (row : List ℕ). HoldParts t 0 (256 + 16 * p) (parts_in v) row l) (sym rows) held);
+      holds = subst (λ (n : ℕ). HoldParts t 0 (256 + 16 * p) n (slice_index_or d.pages p []) l) (sym parts)
+          (subst (λ (r : List ℕ). HoldParts t 0 (256 + 16 * p) c.parts r l) (sym row) held);
     }
 
--- all but the sender is seen as before
-pub view_same : (size spare : ℕ) (v v' : WritersView) (sender sender' : ℕ) (pages pages' : List (List ℕ)) → SameWriters v v'
-    → view_of (record { size = size; frames = spare + parts_in v'; writers = v'; sender = sender'; pages = pages' }) ≡ record (view_of (record { size = size; frames = spare + parts_in v; writers = v; sender = sender; pages = pages })) { sender = sender' }
-view_same size spare v v' sender sender' pages pages' h = rw (h.parts, h.frame_len) refl
+-- another sender's files are changed
+pub sent_other : (c d : PartitioningView) (s t : Shown) (q p : ℕ) (l : Pairs) → p ≢ q → d.parts ≡ c.parts → slice_index_or d.pages p [] ≡ slice_index_or c.pages p [] → Touches (IsSenderFile q) s t → HasSent c s p l → HasSent d t p l
+sent_other c d s t q p l other parts row touches sent = sent_kept c d s t p l parts row (same_by_touches (IsSenderFile p) (IsSenderFile q) s t (senders_apart p q other) touches) sent
+
+-- files are changed that are of no sender
+pub sent_beside : (mine : ℕ → Type 0) (c d : PartitioningView) (s t : Shown) (p : ℕ) (l : Pairs) → c.parts ≤ 16 → ((f : ℕ) → mine f → IsConnectorFile f → ⊥) → d.parts ≡ c.parts → slice_index_or d.pages p [] ≡ slice_index_or c.pages p [] → Touches mine s t
+    → HasSent c s p l → HasSent d t p l
+sent_beside mine c d s t p l most apart parts row touches sent =
+    sent_kept c d s t p l parts row (same_by_touches (IsSenderFile p) mine s t (λ f is own. apart f own (sender_file p (omega (arith, most, sent.below)) f is)) touches) sent
+
+-- neither a group's files nor another one are of a sender
+pub own_or_apart : (made now : GroupMade) (file : ℕ) → now ≡ made → ((f : ℕ) → IsOwn made f → IsConnectorFile f → ⊥) → (IsConnectorFile file → ⊥) → (f : ℕ) → OwnOr now file f → IsConnectorFile f → ⊥
+own_or_apart made now file stays apart other f (inl own) is = apart f (subst (λ m. IsOwn m f) stays own) is
+own_or_apart made now file stays apart other f (inr e) is = other (subst IsConnectorFile e is)
 
 -- the sender is finished, and the numbers of pages of its files are kept in its row
-pub sent_now : (size frames : ℕ) (v v' : WritersView) (sender p : ℕ) (pages : List (List ℕ)) (t : Shown) (l : Pairs) → p ≡ sender → sender < parts_in v → sender < length pages → v.first ≡ 256 + 16 * sender
-    → parts_in v' ≡ parts_in v → HoldParts t 0 v.first (parts_in v) v'.pages l → HasSent (record { size = size; frames = frames; writers = v'; sender = sender; pages = slice_set pages sender v'.pages }) t p l
-sent_now size frames v v' sender p pages t l is below row first parts holds = rw is (record {
-  below = subst (λ (n : ℕ). sender < n) (sym parts) below;
+pub sent_now : (d : PartitioningView) (first parts sender p : ℕ) (rows : List (List ℕ)) (row : List ℕ) (t : Shown) (l : Pairs) → p ≡ sender → sender < d.parts → sender < length rows → first ≡ 256 + 16 * sender → parts ≡ d.parts → d.pages ≡ slice_set rows sender row
+    → HoldParts t 0 first parts row l → HasSent d t p l
+sent_now d first parts sender p rows row t l is below low first_is parts_are pages holds = rw is (record {
+  below = below;
   holds =
-      let at = subst (λ (f : ℕ). HoldParts t 0 f (parts_in v) v'.pages l) first holds in
-      subst (λ (n : ℕ). HoldParts t 0 (256 + 16 * sender) n (slice_index_or (slice_set pages sender v'.pages) sender []) l) (sym parts)
-      (subst (λ (r : List ℕ). HoldParts t 0 (256 + 16 * sender) (parts_in v) r l) (sym (get_or-set_same pages sender v'.pages [] row)) at);
+      let here = subst (λ (f : ℕ). HoldParts t 0 f parts row l) first_is holds in
+      let all = subst (λ (n : ℕ). HoldParts t 0 (256 + 16 * sender) n row l) parts_are here in
+      rw pages (subst (λ (r : List ℕ). HoldParts t 0 (256 + 16 * sender) d.parts r l) (sym (get_or-set_same rows sender row [] low)) all);
 })
+
+pub row_other : (rows : List (List ℕ)) (p q : ℕ) (row : List ℕ) → p ≢ q → slice_index_or (slice_set rows q row) p [] ≡ slice_index_or rows p []
+row_other rows p q row other = get_or-set_other rows q p row [] other
+
+-- writers that are there
+pub writers_is : (P : WritersView → Type 0) (o : Option WritersView) (w : WritersView) → o ≡ Some w → OfWriters P o → P w
+writers_is P None w is h = absurd h
+writers_is P (Some x) w is h = let same : x ≡ w = cc in subst P same h
+
+pub writers_if : (P : WritersView → Type 0) (o : Option WritersView) (w : WritersView) → o ≡ Some w → IfSome o P → P w
+writers_if P None w is h = absurd (cc is)
+writers_if P (Some x) w is h = let same : x ≡ w = cc in subst P same h
+
+pub are_sending : (parts len : ℕ) (o : Option WritersView) (r : Option PartReaders) (w : WritersView) → o ≡ Some w → OnOneSide parts len o r → AreSending parts len w
+are_sending parts len None r w is side = absurd (cc is)
+are_sending parts len (Some x) None w is side = let same : x ≡ w = cc in subst (AreSending parts len) same side
+are_sending parts len (Some x) (Some r) w is side = absurd side
+
+pub are_receiving : (parts len : ℕ) (o : Option WritersView) (rs : Option PartReaders) (r : PartReaders) → rs ≡ Some r → OnOneSide parts len o rs → AreReceiving parts len r
+are_receiving parts len o None r is side = absurd (cc is)
+are_receiving parts len None (Some x) r is side = let same : x ≡ r = cc in subst (AreReceiving parts len) same side
+are_receiving parts len (Some w) (Some x) r is side = absurd side
+
+pub sending_kept : (parts len : ℕ) (w w' : WritersView) → AreSending parts len w → SameWriters w w' → AreWriters w' → AreSending parts len w'
+sending_kept parts len w w' h same are = record { are = are; parts_are = same.parts ∙ h.parts_are; frame_len = same.frame_len ∙ h.frame_len }
+
+-- the writers went on
+pub side_sends : (parts len : ℕ) (o : Option WritersView) (r : Option PartReaders) (w w' : WritersView) → o ≡ Some w → OnOneSide parts len o r → SameWriters w w' → AreWriters w' → OnOneSide parts len (Some w') r
+side_sends parts len None r w w' is side same are = absurd (cc is)
+side_sends parts len (Some x) None w w' is side same are = let e : x ≡ w = cc in sending_kept parts len w w' (subst (AreSending parts len) e side) same are
+side_sends parts len (Some x) (Some r) w w' is side same are = absurd side
+
+-- the readers went on
+pub side_receives : (parts len : ℕ) (o : Option WritersView) (rs : Option PartReaders) (r r' : PartReaders) → rs ≡ Some r → OnOneSide parts len o rs → AreReaders len r'.readers.items → length r'.readers.items ≡ length r.readers.items → OnOneSide parts len o (Some r')
+side_receives parts len o None r r' is side are count = absurd (cc is)
+side_receives parts len None (Some x) r r' is side are count = let e : x ≡ r = cc in record { are = are; parts_are = count ∙ (subst (AreReceiving parts len) e side).parts_are }
+side_receives parts len (Some w) (Some x) r r' is side are count = absurd side
+
+pub readers_is : (P : PartReaders → Type 0) (o : Option PartReaders) (r : PartReaders) → o ≡ Some r → OfReaders P o → P r
+readers_is P None r is h = absurd h
+readers_is P (Some x) r is h = let same : x ≡ r = cc in subst P same h
+
+pub left_is : (o : Option PartReaders) (r : PartReaders) → o ≡ Some r → left_to_give o ≡ all_left r.readers.items
+left_is None r is = absurd (cc is)
+left_is (Some x) r is = let same : x ≡ r = cc in rw same refl
+
+-- the next pair is one that a reader gave
+pub next_given : (o : Option ℕ) (parts : ℕ) (before : Option PartReaders) (r r' : PartReaders) (s t : Shown) (bytes : List ℕ) → before ≡ Some r → length r.readers.items ≡ parts
+    → IfSome o (λ v. (ls : ℕ → Pairs) → GiveAll s r.readers.items ls → (p : ℕ) × (p < length r.readers.items) × LeadsPair v bytes (ls p) (λ l. GiveAll t r'.readers.items (at p l ls)))
+    → IfSome o (λ v. (ls : ℕ → Pairs) → OfReaders (λ x. GiveAll s x.readers.items ls) before → (p : ℕ) × (p < parts) × LeadsPair v bytes (ls p) (λ l. GiveAll t r'.readers.items (at p l ls)))
+next_given None parts before r r' s t bytes is count given = tt
+next_given (Some v) parts before r r' s t bytes is count given = λ ls gives.
+    let n = given ls (readers_is (λ x. GiveAll s x.readers.items ls) before r is gives) in
+    (n.0, subst (λ (k : ℕ). n.0 < k) count n.1, n.2)
+
+pub none_given : (o : Option ℕ) (parts : ℕ) (before : Option PartReaders) (r : PartReaders) (s : Shown) → before ≡ Some r → length r.readers.items ≡ parts
+    → IfNone o ((ls : ℕ → Pairs) → GiveAll s r.readers.items ls → (p : ℕ) → p < length r.readers.items → ls p ≡ [])
+    → IfNone o ((ls : ℕ → Pairs) → OfReaders (λ x. GiveAll s x.readers.items ls) before → (p : ℕ) → p < parts → ls p ≡ [])
+none_given (Some v) parts before r s is count none = tt
+none_given None parts before r s is count none = λ ls gives p lt. none ls (readers_is (λ x. GiveAll s x.readers.items ls) before r is gives) p (subst (λ (k : ℕ). p < k) (sym count) lt)
+
+-- no receiver is open, so none is given
+pub not_open : (P : PartReaders → Type 0) (o : Option PartReaders) → ((r : PartReaders) → o ≡ Some r → ⊥) → OfReaders P o → ⊥
+not_open P None other h = h
+not_open P (Some r) other h = other r refl

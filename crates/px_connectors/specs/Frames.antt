@@ -1,5 +1,5 @@
 -- What is known of writers and their files depends on these files alone.
-use Rattle.std.specs.Prelude.{◌≡◌, ◌≤◌, ◌<◌, ℕ, ◌+◌, ◌*◌, List, map, [], Option, Some, None, slice_index_or}
+use Rattle.std.specs.Prelude.{◌≡◌, ◌≤◌, ◌<◌, ℕ, ◌+◌, ◌*◌, true, List, map, [], Option, Some, None, slice_index_or}
 use Rattle.std.proofs.Common.{sym, subst, ◌∙◌}
 use Rattle.std.proofs.Math.Nat.{le_refl, le_trans, le-add_right, add-lt-add_of_le_of_lt}
 use Rattle.px_core.specs.Parts.{to_part}
@@ -7,12 +7,15 @@ use Rattle.px_core.specs.Same.{Same}
 use Rattle.px_core.specs.Shown.{Shown, Only}
 use Rattle.px_core.proofs.Keeping.{same_fewer}
 use Rattle.px_meaning.specs.Merge.{Pairs}
-use Rattle.px_stream.specs.Views.{WriterView}
-use Rattle.px_stream.proofs.Kept.{took_same, has_same}
+use Rattle.px_stream.specs.Views.{WriterView, ReaderView}
+use Rattle.px_stream.proofs.Kept.{took_same, has_same, to_give_same}
 use Rattle.px_connectors.specs.Messages.{tagged}
 use Rattle.px_connectors.specs.Writers.{WritersView, parts_in, writer_at, IsPartFile, OfWriter, WritesPart, TookAll, TookParts, HoldParts}
+use Rattle.px_connectors.specs.declared.readers.PartReaders.{PartReaders}
 use Rattle.px_connectors.specs.Asking.{IsRequestFile, RequestsView, Asked}
-use Rattle.px_connectors.specs.Views.{PartitioningView, view_of, IsSenderFile, Sends, HasSent}
+use Rattle.px_connectors.specs.Receiving.{OfReader, GivesPairs, GiveAll}
+use Rattle.px_connectors.specs.Sides.{PartitioningView, view_of, OfWriters, OfReaders, IsBegun, Sends, HasSent, Receives}
+use Rattle.px_connectors.specs.Views.{IsSenderFile, IsConnectorFile}
 
 pub of_both : (P Q R : WriterView → Type 0) (o : Option WriterView) → ((w : WriterView) → P w → Q w → R w) → OfWriter P o → OfWriter Q o → OfWriter R o
 of_both P Q R None both p q = absurd p
@@ -50,20 +53,45 @@ asked_same s t r l same asked = record {
   took = took_parts_same s t 2 r.writers l (subst (λ (f : ℕ). Same (IsPartFile f) s t) (sym asked.first) same) asked.took;
 }
 
+begun_same : (s t : Shown) (p : ℕ) (l : Pairs) → Same (IsSenderFile p) s t → (o : Option WritersView) → OfWriters (IsBegun s p l) o → OfWriters (IsBegun t p l) o
+begun_same s t p l same None h = h
+begun_same s t p l same (Some w) h = record {
+  first = h.first;
+  took = took_parts_same s t 0 w l (subst (λ (f : ℕ). Same (IsPartFile f) s t) (sym h.first) same) h.took;
+}
+
 -- what a sender put so far
 pub sends_stays : (c : PartitioningView) (s t : Shown) (p : ℕ) (l : Pairs) → Same (IsSenderFile p) s t → Sends c s p l → Sends c t p l
-sends_stays c s t p l same sends = record {
-  is = sends.is;
-  first = sends.first;
-  took = took_parts_same s t 0 c.writers l (subst (λ (f : ℕ). Same (IsPartFile f) s t) (sym sends.first) same) sends.took;
-}
+sends_stays c s t p l same sends = record { is = sends.is; begun = begun_same s t p l same c.writers sends.begun }
 
 -- what a finished sender put
 pub has_sent_stays : (c : PartitioningView) (s t : Shown) (p : ℕ) (l : Pairs) → Same (IsSenderFile p) s t → HasSent c s p l → HasSent c t p l
 has_sent_stays c s t p l same sent = record {
   below = sent.below;
-  holds = hold_parts_same s t 0 (256 + 16 * p) (parts_in c.writers) (slice_index_or c.pages p []) l same sent.holds;
+  holds = hold_parts_same s t 0 (256 + 16 * p) c.parts (slice_index_or c.pages p []) l same sent.holds;
 }
+
+-- it is known of a disk that tells alone
+pub has_sent_tells : (c : PartitioningView) (s : Shown) (p : ℕ) (l : Pairs) → HasSent c s p l → s.tells ≡ true
+has_sent_tells c s p l sent = (sent.holds.each p sent.below).tells.on
 
 pub sends_sender : (c : PartitioningView) (s : Shown) (p : ℕ) (l : Pairs) → Sends c s p l → p ≡ (view_of c).sender
 sends_sender c s p l sends = sends.is
+
+pub gives_pairs_same : (s t : Shown) (l : Pairs) → Same IsConnectorFile s t → (o : Option ReaderView) → OfReader (GivesPairs s l) o → OfReader (GivesPairs t l) o
+gives_pairs_same s t l same None h = h
+gives_pairs_same s t l same (Some r) h = record {
+  file = h.file;
+  gives = to_give_same s t r (map (tagged 0) l) (same_fewer (Only r.file) IsConnectorFile s t (λ f is. subst IsConnectorFile (sym is) h.file) same) h.gives;
+}
+
+pub give_all_same : (s t : Shown) (rs : List (Option ReaderView)) (ls : ℕ → Pairs) → Same IsConnectorFile s t → GiveAll s rs ls → GiveAll t rs ls
+give_all_same s t rs ls same gives p o at = gives_pairs_same s t (ls p) same o (gives p o at)
+
+readers_same : (s t : Shown) (ls : ℕ → Pairs) → Same IsConnectorFile s t → (o : Option PartReaders) → OfReaders (λ r. GiveAll s r.readers.items ls) o → OfReaders (λ r. GiveAll t r.readers.items ls) o
+readers_same s t ls same None h = h
+readers_same s t ls same (Some r) h = give_all_same s t r.readers.items ls same h
+
+-- what the senders have left for an open receiver
+pub receives_stays : (c : PartitioningView) (s t : Shown) (ls : ℕ → Pairs) → Same IsConnectorFile s t → Receives c s ls → Receives c t ls
+receives_stays c s t ls same receives = readers_same s t ls same c.readers receives

@@ -1,6 +1,9 @@
 pub mod Messages
-pub mod Files
+pub mod Stops
 pub mod Writers
 pub mod Asking
 pub mod Views
+pub mod Files
+pub mod Receiving
+pub mod Sides
 pub mod Frames

@@ -3,7 +3,7 @@ ghost use Rattle.std.specs.Prelude.{◌≡◌, ◌≤◌, ◌<◌, [], ◌∷◌
 ghost use Rattle.px_connectors.specs.Asking.{AskedOf, SameRequests};
 
 use crate::{Connector, Partitioning, Requests};
-use px_core::{Disk, Stop, Vid};
+use px_core::{Disk, HighTurns, ListTurns, Stop, Turns, Vid, part_of};
 use px_frames::{Bank, Buf, Frame, Share};
 use px_memdisk::MemDisk;
 use px_pages::tags;
@@ -159,6 +159,139 @@ fn each_call_of_the_disk_fails_in_turn(rt: HostRuntime) -> Result<(), Fail> {
         let (_, sent, asked) = round(alloc, 3, fail)?;
         assert_eq!(rt; (sent, asked), (Ok(()), Err(Stop::Scratch)), "{fail}");
     }
+    Ok(())
+}
+
+// A sender puts a payload to vid 0, so often.
+fn send_often<C: Connector, D: Disk>(
+    disk: &mut D,
+    connector: &mut C,
+    sender: u32,
+    payload: &[u8],
+    times: u32,
+) -> Result<(), Stop>
+    requires sender { sender < (C.view connector.old).parts }
+    requires frame_len { (C.view connector.old).frame_len ≡ 256 }
+    requires page_len { (D.shown disk.old).page_len ≡ 256 }
+    requires payload { length payload.now ≤ 99 }
+    ensures page_len { (D.shown disk.new).page_len ≡ 256 }
+    ensures parts { (C.view connector.new).parts ≡ (C.view connector.old).parts }
+    ensures frame_len { (C.view connector.new).frame_len ≡ 256 }
+{
+    connector.begin(disk, sender)?;
+    for _ in 0..times {
+        connector.put(disk, 0, payload)?;
+    }
+    connector.finish(disk)
+}
+
+// Whether the open receiver is given payloads to vid 0 that begin with these bytes, and no more.
+fn is_given<C: Connector, D: Disk, T: Turns>(
+    disk: &mut D,
+    connector: &mut C,
+    turns: &mut T,
+    want: &[u8],
+    into: &mut Buf,
+) -> Result<bool, Stop>
+    requires frame_len { (C.view connector.old).frame_len ≡ 256 }
+    requires page_len { (D.shown disk.old).page_len ≡ 256 }
+    requires limit { into.old.limit ≡ 99 }
+{
+    for byte in want {
+        match connector.next(disk, turns, into)? {
+            Some(0) if into.bytes().first() == Some(byte) => {}
+            _ => return Ok(false),
+        }
+    }
+    Ok(connector.next(disk, turns, into)?.is_none())
+}
+
+// Two senders send their numbers so often, and a receiver is to be given them in this order.
+fn exchange<C: Connector, D: Disk, T: Turns>(
+    disk: &mut D,
+    connector: &mut C,
+    turns: &mut T,
+    row: (usize, u32, &[u8]),
+    into: &mut Buf,
+) -> Result<bool, Stop>
+    requires parts { (C.view connector.old).parts ≡ 2 }
+    requires frame_len { (C.view connector.old).frame_len ≡ 256 }
+    requires page_len { (D.shown disk.old).page_len ≡ 256 }
+    requires limit { into.old.limit ≡ 99 }
+    requires len { row.0 ≤ 60 }
+{
+    let (len, times, want) = row;
+    send_often(disk, connector, 0, &[0; 60][..len], times)?;
+    send_often(disk, connector, 1, &[1; 60][..len], times)?;
+    connector.receive(disk, part_of(0, 2))?;
+    is_given(disk, connector, turns, want, into)
+}
+
+// The same over a disk of which this call fails.
+fn exchange_round<T: Turns>(
+    alloc: Global,
+    turns: &mut T,
+    row: (usize, u32, &[u8]),
+    fail: u64,
+) -> Result<Result<bool, Stop>, Fail>
+    requires len { row.0 ≤ 60 }
+{
+    let mut disk = MemDisk::new(alloc, &[fail])?;
+    disk.start(256)?;
+    let mut connector = Partitioning::open(share_of(alloc, 2)?, 2);
+    let mut into = Buf::over(Frame::new(alloc, 256)?, 99);
+    Ok(exchange(&mut disk, &mut connector, turns, row, &mut into))
+}
+
+// How long each payload is, how often each sender puts it, and in which order they come: by the lowest bit, by the highest, and by the list 1, 0, 1.
+// A page holds three payloads of 60 bytes, so both senders have one of three and one of one.
+const EXCHANGES: &[(usize, u32, &[u8], &[u8], &[u8])] = &[
+    (1, 1, &[0, 1], &[1, 0], &[1, 0]),
+    (
+        60,
+        4,
+        &[0, 0, 0, 0, 1, 1, 1, 1],
+        &[1, 1, 1, 1, 0, 0, 0, 0],
+        &[1, 1, 1, 0, 0, 0, 1, 0],
+    ),
+    (60, 0, &[], &[], &[]),
+];
+
+#[test]
+fn a_receiver_is_given_whole_frames_by_turns(rt: HostRuntime) -> Result<(), Fail> {
+    let alloc = rt.alloc();
+    for (len, times, low, high, listed) in EXCHANGES {
+        let mut turns = ListTurns::new(alloc, &[])?;
+        assert_eq!(rt;
+            exchange_round(alloc, &mut turns, (*len, *times, *low), 0)?,
+            Ok(true)
+        );
+        let mut turns = HighTurns::new();
+        assert_eq!(rt;
+            exchange_round(alloc, &mut turns, (*len, *times, *high), 0)?,
+            Ok(true)
+        );
+        let mut turns = ListTurns::new(alloc, &[1, 0, 1])?;
+        assert_eq!(rt;
+            exchange_round(alloc, &mut turns, (*len, *times, *listed), 0)?,
+            Ok(true)
+        );
+    }
+    Ok(())
+}
+
+#[test]
+fn each_call_of_the_disk_fails_under_a_receiver(rt: HostRuntime) -> Result<(), Fail> {
+    let alloc = rt.alloc();
+    // Each sender clears two files and writes two pages, and the receiver reads the four.
+    for fail in 2..=13 {
+        let mut turns = HighTurns::new();
+        let given = exchange_round(alloc, &mut turns, (60, 4, &[1, 1, 1, 1, 0, 0, 0, 0]), fail)?;
+        assert_eq!(rt; given, Err(Stop::Scratch), "{fail}");
+    }
+    let mut turns = HighTurns::new();
+    let given = exchange_round(alloc, &mut turns, (60, 4, &[1, 1, 1, 1, 0, 0, 0, 0]), 14)?;
+    assert_eq!(rt; given, Ok(true));
     Ok(())
 }
 

@@ -6,13 +6,14 @@ use Rattle.px_pages.specs.Entry.{Entry, entry}
 use Rattle.px_stream.specs.Stream.{Took}
 use Rattle.px_meaning.specs.Merge.{Pairs}
 use Rattle.px_program.specs.Groups.{IsOwn, LeadsPair}
-use Rattle.px_connectors.proofs.Between.{giving_first, giving_next, giving_end}
+use Rattle.px_connectors.proofs.Between.{giving_first, giving_next, giving_end, counting_first, counting_next, counting_end}
 use Rattle.px_connectors.proofs.gathering.write_folds.Goals as goal
 
 pub loop-vid-init : goal.loop-vid-init
 loop-vid-init g c = record {
   giving = λ all rest k gave took. giving_first _ _ c.args.to.now k rest gave took;
   some = λ all rest gave. (rest, gave);
+  counted = λ all rest gave. counting_first _ rest gave;
   clean = search rules;
   made = search rules;
   sealed = search rules;
@@ -44,6 +45,7 @@ loop-vid-preserved g c =
       giving = λ all rest k gave took. giving_next _ _ _ s t u c.loop-vid.to c.put.new.self c.in-Some.vid bytes k rest
           (same_by_touches (Only file) (IsOwn before) s t (λ f is own. other (subst (IsOwn before) is own)) c.in_ok-vid.ensures.ok.touches) (gives all) (same all) takes (i.giving all rest k gave took);
       some = λ all rest gave. let now = i.some all rest gave in let lead = gives all now.0 now.1 in (lead.rest, same all lead.rest lead.after);
+      counted = λ all rest gave. counting_next _ _ _ c.in-Some.vid bytes c.loop-vid.count c.one_more-count.result rest (gives all) (same all) c.one_more-count.ensures (i.counted all rest gave);
       clean = search rules;
       made = search rules;
       sealed = search rules;
@@ -64,3 +66,10 @@ returns-clause-took g c = λ all rest k gave took.
     let other : IsOwn before file → ⊥ = λ own. c.requires.apart (subst (λ m. IsOwn m c.args.to.now.file) i.made (subst (IsOwn before) i.to_file own)) in
     let none : (all k : Pairs) → g.G.Group.gives s c.loop-vid.group rule all k → k ≡ [] = MatchOption-at_none _ _ c.in_default.is c.in_ok-vid.ensures.none in
     giving_end _ s t c.loop-vid.to k rest (same_by_touches (Only file) (IsOwn before) s t (λ f is own. other (subst (IsOwn before) is own)) c.in_ok-vid.ensures.ok.touches) (none all) (i.giving all rest k gave took)
+
+pub returns-clause-count : goal.returns-clause-count
+returns-clause-count g c = λ all rest gave.
+    let rule = g.M.Merge.rule c.args.merge.now in
+    let s = g.D.Disk.shown c.loop-vid.disk in
+    let none : (all k : Pairs) → g.G.Group.gives s c.loop-vid.group rule all k → k ≡ [] = MatchOption-at_none _ _ c.in_default.is c.in_ok-vid.ensures.none in
+    counting_end _ c.loop-vid.count rest (none all) (c.loop-vid.invariant.counted all rest gave)

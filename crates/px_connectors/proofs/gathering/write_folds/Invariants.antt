@@ -5,7 +5,7 @@ use Rattle.px_pages.specs.Entry.{Entry}
 use Rattle.px_stream.specs.Stream.{Took}
 use Rattle.px_meaning.specs.Merge.{Pairs}
 use Rattle.px_connectors.specs.Files.{OwnOr}
-use Rattle.px_connectors.proofs.Between.{Giving}
+use Rattle.px_connectors.proofs.Between.{Giving, Counting}
 use Rattle.px_connectors.proofs.gathering.write_folds.Given as goal
 
 abbrev pub invariant-loop-vid : goal.invariant-loop-vid
@@ -16,6 +16,7 @@ invariant-loop-vid g l =
       giving : (all rest : Pairs) (k : List Entry) → g.G.Group.gives (shown l.fn.disk) l.fn.group rule all rest → Took (shown l.fn.disk) l.fn.to k
           → Giving (g.G.Group.gives (shown l.disk) l.group rule all) (shown l.disk) l.to k rest;
       some : (all rest : Pairs) → g.G.Group.gives (shown l.fn.disk) l.fn.group rule all rest → (now : Pairs) × g.G.Group.gives (shown l.disk) l.group rule all now;
+      counted : (all rest : Pairs) → g.G.Group.gives (shown l.fn.disk) l.fn.group rule all rest → Counting (g.G.Group.gives (shown l.disk) l.group rule all) l.count rest;
       clean : Clean (OwnOr (g.G.Group.made l.fn.group) l.fn.to.file) (shown l.fn.disk) (shown l.disk);
       made : g.G.Group.made l.group ≡ g.G.Group.made l.fn.group;
       sealed : IsTrue (g.G.Group.is_sealed l.group);
