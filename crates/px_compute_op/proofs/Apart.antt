@@ -4,11 +4,11 @@ use Rattle.px_core.specs.Same.{Apart}
 use Rattle.px_core.specs.Shown.{Only}
 use Rattle.px_program.specs.Groups.{GroupMade, IsOwn}
 use Rattle.px_connectors.specs.Asking.{IsRequestFile}
-use Rattle.px_connectors.specs.Views.{IsSenderFile}
+use Rattle.px_connectors.specs.Views.{IsSenderFile, IsConnectorFile}
 use Rattle.px_store.specs.Joins.{IsInput}
 use Rattle.px_store.specs.declared.join.Inputs.{Inputs}
 use Rattle.px_compute_op.specs.Outs.{IsOutFile}
-use Rattle.px_compute_op.specs.Phase.{AreApart, IsConnectorFile, IsRunFile, OwnOrSent}
+use Rattle.px_compute_op.specs.Phase.{AreApart, IsRunFile, OwnOrSent}
 
 -- they stay so where these are the same
 pub apart_at : (made made' : GroupMade) (u u' : ℕ) (ins ins' : Inputs) → made' ≡ made → u' ≡ u → ins' ≡ ins → AreApart made u ins → AreApart made' u' ins'

@@ -11,13 +11,13 @@ use Rattle.px_meaning.specs.Phase.{has_wide_answer}
 use Rattle.px_meaning.specs.Program.{ProgramMeaning, ProgramLaws, Moment, Row, Out}
 use Rattle.px_meaning.specs.Step.{Computed, computed, outs, is_wide, has_wide_vertex, has_wide_fold}
 use Rattle.px_pages.specs.Entry.{Entry, entry}
-use Rattle.px_record.specs.Body.{body_of}
+use Rattle.px_record.specs.Body.{IsVertex, body_of}
 use Rattle.px_program.specs.Posted.{Posted, Begins, IsPartOf, IsBeyond, made_for, with_out, nothing}
 use Rattle.px_program.specs.Phase.{with_all, IsPartOfAll}
 use Rattle.px_program.proofs.Phases.{part_of_rows, wide_among_rows, beyond_by_part}
 use Rattle.px_compute_op.specs.Outs.{has_wide_pair}
 use Rattle.px_store.specs.Joins.{vertex_tuples}
-use Rattle.px_compute_op.specs.Phase.{HaveValidMessages, AreComputed, is_part_beyond}
+use Rattle.px_compute_op.specs.Phase.{HaveValidMessages, AreStored, AreComputed, is_part_beyond}
 
 -- the first rows were computed, and the others are still to be given
 pub record RowsAt (p : ProgramMeaning) (at : Moment) (room : ℕ) (giving : List Row → Type 0) (updating : List Entry → Type 0) (taking : Posted → Type 0) (rows : List Row) : Type 0 where
@@ -29,6 +29,7 @@ pub record RowsAt (p : ProgramMeaning) (at : Moment) (room : ℕ) (giving : List
   pub valid_rest : HaveValidMessages p.message rest
   pub updates : updating (vertex_tuples (computed p at done).changes)
   pub taken : taking (with_all (computed p at done) nothing)
+  pub stored : AreStored (computed p at done).changes
   pub fit : has_wide_vertex room (computed p at done).changes ≡ false
 
 module _ (m : ProgramMeaning) (t : Moment) where
@@ -86,6 +87,7 @@ rows_first m at room giving updating taking rows gives valid updates taken = rec
   valid_rest = valid;
   updates = updates;
   taken = taken;
+  stored = tt;
   fit = refl;
 }
 
@@ -95,14 +97,20 @@ pub within_limits : (p : ProgramMeaning) (room : ℕ) (c : Computed) → has_wid
 within_limits p room c vertices folds sends requests asked =
     or_from _ _ vertices (or_from _ _ (or_from _ _ folds (le-ltb (2 ^ 40) (length c.sends) sends)) (or_from _ _ requests (le-ltb (2 ^ 40) (length c.requests) asked)))
 
+-- one more was held
+stored_last : (l : List (ℕ × Vertex)) (e : ℕ × Vertex) → AreStored l → IsVertex e.1 → AreStored (l ++ e ∷ [])
+stored_last [] e all is = (is, tt)
+stored_last (x ∷ l) e all is = (all.0, stored_last l e all.1 is)
+
 module _ (m : ProgramMeaning) (at : Moment) (room : ℕ) (giving giving' : List Row → Type 0) (updating updating' : List Entry → Type 0) (taking taking' : Posted → Type 0) where
   -- one more row was computed
   pub rows_after : (rows : List Row) (was : RowsAt m at room giving updating taking rows) (r : Row) (rest : List Row) → was.rest ≡ r ∷ rest → giving' rest
       → (IsValidMessage m.message r.message → (p : Posted) → taking p → taking' (with_out (m.out_of at r) p))
       → (IsValidMessage m.message r.message → (l : List Entry) → updating l → updating' (l ++ entry r.vid 1 (body_of (m.out_of at r).vertex) ∷ []))
       → (IsValidMessage m.message r.message → vertex_size (m.out_of at r).vertex ≤ room)
+      → (IsValidMessage m.message r.message → IsVertex (m.out_of at r).vertex)
       → RowsAt m at room giving' updating' taking' rows
-  rows_after rows was r rest is gives take update fits =
+  rows_after rows was r rest is gives take update fits held =
       let valid = subst (HaveValidMessages m.message) is was.valid_rest in
       let done = was.done in
       let tuple : ℕ × Vertex → Entry = λ e. entry e.0 1 (body_of e.1) in
@@ -115,6 +123,7 @@ module _ (m : ProgramMeaning) (at : Moment) (room : ℕ) (giving giving' : List 
         valid_rest = valid.1;
         updates = subst updating' (sym (ap vertex_tuples (changes_last m at done r) ∙ map-append tuple (computed m at done).changes ((r.vid, (m.out_of at r).vertex) ∷ []))) (update valid.0 (vertex_tuples (computed m at done).changes) was.updates);
         taken = subst taking' (posted_last m at done r nothing) (take valid.0 (with_all (computed m at done) nothing) was.taken);
+        stored = subst AreStored (sym (changes_last m at done r)) (stored_last (computed m at done).changes (r.vid, (m.out_of at r).vertex) was.stored (held valid.0));
         fit = ap (has_wide_vertex room) (changes_last m at done r) ∙ list_any-append (λ (e : ℕ × Vertex). is_wide room e.1) (computed m at done).changes ((r.vid, (m.out_of at r).vertex) ∷ [])
             ∙ or_from _ _ was.fit (or_from _ _ (le-ltb room (vertex_size (m.out_of at r).vertex) (fits valid.0)) refl);
       }
@@ -124,4 +133,4 @@ pub rows_over : (m : ProgramMeaning) (at : Moment) (room : ℕ) (giving : List R
     → ((l : List Entry) → updating l → updating' l) → ((p : Posted) → taking p → taking' p) → AreComputed room updating' taking' (computed m at rows)
 rows_over m at room giving updating updating' taking taking' rows was over keep stay =
     let all : rows ≡ was.done = was.split ∙ ap (λ l. was.done ++ l) over ∙ append-nil was.done in
-    subst (λ (rs : List Row). AreComputed room updating' taking' (computed m at rs)) (sym all) (record { updates = keep _ was.updates; taken = stay _ was.taken; fit = was.fit })
+    subst (λ (rs : List Row). AreComputed room updating' taking' (computed m at rs)) (sym all) (record { updates = keep _ was.updates; taken = stay _ was.taken; stored = was.stored; fit = was.fit })

@@ -1,23 +1,19 @@
 -- The compute phase of one partition.
-use Rattle.std.specs.Prelude.{◌≡◌, ◌≢◌, ◌≤◌, ◌<◌, ◌⊎◌, ◌+◌, ℕ, Bool, ◌||◌, List, [], ◌++◌, false, fold, length}
+use Rattle.std.specs.Prelude.{◌≡◌, ◌⊎◌, ◌+◌, ℕ, Bool, ◌||◌, List, [], ◌++◌, false, fold, length}
 use Rattle.std.specs.List.{AllByRecursion}
-use Rattle.px_core.specs.Counts.{Rose}
 use Rattle.px_core.specs.Same.{Apart}
-use Rattle.px_core.specs.Shown.{Shown, Touches}
-use Rattle.px_core.specs.declared.stop.Stop.{Stop}
-use Rattle.px_core.specs.declared.stop.Stop.TheVariants.{Graph as GraphStop, Scratch, Beyond}
-use Rattle.px_cache.specs.View.{AnyFile}
 use Rattle.px_frames.specs.Buffer.{SameRoom as SameBuf}
-use Rattle.px_meaning.specs.Graph.{room_of}
+use Rattle.px_meaning.specs.Graph.{Vertex, room_of}
 use Rattle.px_meaning.specs.Merge.{MergeRule, Pairs, IsValidMessage, grouped}
 use Rattle.px_meaning.specs.Program.{ProgramMeaning, Row}
 use Rattle.px_meaning.specs.Step.{Computed, has_wide_vertex, are_beyond}
 use Rattle.px_pages.specs.Entry.{Entry}
+use Rattle.px_record.specs.Body.{IsVertex}
 use Rattle.px_program.specs.Groups.{GroupMade, IsOwn}
 use Rattle.px_program.specs.Phase.{with_all}
 use Rattle.px_program.specs.Posted.{Posted, nothing, asks_too_much}
 use Rattle.px_connectors.specs.Asking.{IsRequestFile}
-use Rattle.px_connectors.specs.Views.{IsSenderFile}
+use Rattle.px_connectors.specs.Views.{IsSenderFile, IsConnectorFile}
 use Rattle.px_store.specs.Desks.{SameRoom}
 use Rattle.px_store.specs.Joins.{IsInput, vertex_tuples}
 use Rattle.px_store.specs.declared.join.Inputs.{Inputs}
@@ -40,11 +36,6 @@ IsPhaseFile made updates sender f = IsRunFile made updates f ⊎ IsSenderFile se
 -- and those that it reads, of which nothing is told after a read failed
 abbrev pub OrInput : Inputs → (ℕ → Type 0) → ℕ → Type 0
 OrInput ins mine f = mine f ⊎ IsInput ins f
-
--- a file of some sender
-pub record IsConnectorFile (f : ℕ) : Type 0 where
-  pub low : 256 ≤ f
-  pub high : f < 512
 
 -- the files of a phase are different ones: the group's, that of the updates, those of requests and of senders, and those that the join reads
 pub record AreApart (made : GroupMade) (updates : ℕ) (ins : Inputs) : Type 0 where
@@ -96,26 +87,22 @@ pub record IsPart (p : ProgramMeaning) (c : Computed) (part : Part) : Type 0 whe
   pub requests : part.requests ≡ length c.requests
   pub contributed : part.contributed ≡ fold p.join p.unit c.contributions
 
+-- new vertices, each of which a frame has held
+abbrev pub AreStored : List (ℕ × Vertex) → Type 0
+AreStored changes = AllByRecursion (λ (e : ℕ × Vertex). IsVertex e.1) changes
+
 -- a partition's phase is over: its numbers, its updates, the fold of what it sends to each vid, and its requests behind those before
 pub record HasRun (p : ProgramMeaning) (room : ℕ) (c : Computed) (updating : List Entry → Type 0) (sending asking : Pairs → Type 0) (before : Pairs) (part : Part) : Type 0 where
   pub numbers : IsPart p c part
   pub updates : updating (vertex_tuples c.changes)
   pub sends : sending (grouped p.message c.sends)
   pub requests : asking (before ++ c.requests)
+  pub stored : AreStored c.changes
   pub fits : is_part_beyond p room c ≡ false
-
--- a phase ended with a stop: Beyond where what it computes is, else the disk that failed. The other did not
-pub record StopsPhase (mine : ℕ → Type 0) (IsTooMuch : Type 0) (g g' s s' : Shown) (e : Stop) : Type 0 where
-  pub beyond : e ≡ Beyond → IsTooMuch
-  pub graph : e ≡ GraphStop → Rose g.faults g'.faults
-  pub scratch : e ≡ Scratch → Rose s.faults s'.faults
-  pub no_graph : e ≢ GraphStop → g'.faults ≡ g.faults
-  pub no_scratch : e ≢ Scratch → s'.faults ≡ s.faults
-  pub touches : Touches mine s s'
-  pub graph_touches : Touches AnyFile g g'
 
 -- all rows were computed: the updates took the new vertices, each within room, and the rest was taken
 pub record AreComputed (room : ℕ) (updating : List Entry → Type 0) (taking : Posted → Type 0) (c : Computed) : Type 0 where
   pub updates : updating (vertex_tuples c.changes)
   pub taken : taking (with_all c nothing)
+  pub stored : AreStored c.changes
   pub fit : has_wide_vertex room c.changes ≡ false

@@ -13,11 +13,13 @@ ghost use Rattle.px_program.specs.Phase.{with_all};
 ghost use Rattle.px_program.specs.Posted.{nothing};
 ghost use Rattle.px_stream.specs.Stream.{Took, Has};
 ghost use Rattle.px_connectors.specs.Asking.{SameRequests, Asked};
+ghost use Rattle.px_connectors.specs.Stops.{StopsPhase};
+ghost use Rattle.px_connectors.specs.Views.{IsConnectorFile};
 ghost use Rattle.px_store.specs.Desks.{IsReady, IsDone, SameDesk};
 ghost use Rattle.px_store.specs.Joins.{HasRows};
 ghost use Rattle.px_global_state.specs.States.{moment_of};
 ghost use Rattle.px_compute_op.specs.Outs.{HasTaken};
-ghost use Rattle.px_compute_op.specs.Phase.{AreApart, IsConnectorFile, OwnOrSent, IsRunFile, IsPhaseFile, OrInput, IsBench, SameBench, Begun, AreComputed, HasRun, StopsPhase, is_part_beyond};
+ghost use Rattle.px_compute_op.specs.Phase.{AreApart, OwnOrSent, IsRunFile, IsPhaseFile, OrInput, IsBench, SameBench, Begun, AreComputed, HasRun, is_part_beyond};
 
 use crate::outs::Meant;
 use crate::row::compute_in;

@@ -12,7 +12,7 @@ use Rattle.px_pages.specs.Entry.{entry}
 use Rattle.px_program.specs.Groups.{GroupMade, IsOwn}
 use Rattle.px_program.specs.Phase.{with_all}
 use Rattle.px_program.specs.Posted.{Posted, IsPartOf, IsBeyond, made_for, with_out, nothing}
-use Rattle.px_record.specs.Body.{body_of}
+use Rattle.px_record.specs.Body.{IsVertex, body_of}
 use Rattle.px_record.specs.Held.{HeldVertex}
 use Rattle.px_connectors.specs.Asking.{IsRequestFile, Asked}
 use Rattle.px_connectors.specs.Frames.{asked_same}
@@ -116,7 +116,8 @@ loop-row-preserved g c =
           let size = ap (λ (h : HeldVertex). vertex_size h.vertex) new in
           let fits = c.in_ok-compute_in.ensures.fits in
           let same : c.compute_in.new.vertex.room ≡ room = c.compute_in.ensures.record_stays.room ∙ room_is in
-          omega (arith, size, fits, same));
+          omega (arith, size, fits, same))
+          (λ valid. subst IsVertex (ap (λ (h : HeldVertex). h.vertex) (c.in_ok-compute_in.ensures.vertex lead.first lead.row valid)) c.body.ensures.within.fits);
       held = λ x rows has.
           (let rest = i.held x rows has in
           let lead = gives x rest.0 rest.1 in (

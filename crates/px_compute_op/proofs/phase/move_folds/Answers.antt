@@ -5,7 +5,7 @@ use Rattle.px_core.proofs.Keeping.{same_by_touches}
 use Rattle.px_meaning.specs.Merge.{Pairs}
 use Rattle.px_program.specs.Groups.{GroupMade, IsOwn, LeadsPair}
 use Rattle.px_connectors.specs.Views.{ConnectorView, IsSenderFile, AllUpTo}
-use Rattle.px_compute_op.specs.Phase.{IsConnectorFile}
+use Rattle.px_connectors.specs.Views.{IsConnectorFile}
 use Rattle.px_compute_op.proofs.Apart.{sender_file}
 use Rattle.px_compute_op.proofs.Moving.{moving_first, moving_next, moving_end}
 use Rattle.px_compute_op.proofs.phase.move_folds.Goals as goal

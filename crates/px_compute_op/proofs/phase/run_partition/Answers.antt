@@ -11,11 +11,11 @@ use Rattle.px_meaning.specs.Graph.{room_of}
 use Rattle.px_program.specs.Groups.{GroupMade, IsOwn, room_in}
 use Rattle.px_connectors.specs.Asking.{IsRequestFile}
 use Rattle.px_connectors.specs.Frames.{asked_same}
-use Rattle.px_connectors.specs.Views.{ConnectorView, IsSenderFile}
+use Rattle.px_connectors.specs.Views.{ConnectorView, IsConnectorFile, IsSenderFile}
 use Rattle.px_stream.proofs.Kept.{took_same}
 use Rattle.px_global_state.specs.States.{moment_of}
 use Rattle.px_store.specs.Joins.{vertex_tuples}
-use Rattle.px_compute_op.specs.Phase.{AreApart, IsConnectorFile, IsRunFile, OwnOrSent}
+use Rattle.px_compute_op.specs.Phase.{AreApart, IsRunFile, OwnOrSent}
 use Rattle.px_compute_op.proofs.Apart.{apart_at, sender_own, sender_run, sender_update, update_own, update_moved, update_sender, request_own, request_moved, request_sender, request_update}
 use Rattle.px_compute_op.proofs.Rows.{within_limits}
 use Rattle.px_compute_op.proofs.phase.run_partition.Goals as goal
@@ -170,6 +170,7 @@ returns-clause-made g c = λ l rows earlier b begun asked.
       updates = c.in_ok-finish-2.ensures.holds tuples up4;
       sends = g.met.C.Connector.sent_stays c.finish.new.self s4 s5 sender (grouped m.message all.sends) (same_by_touches (IsSenderFile sender) (Only v) s4 s5 (sender_update made v ins after sender low) by_updates) sent;
       requests = asked_same s4 s5 c.each_row.new.requests want (same_by_touches IsRequestFile (Only v) s4 s5 (request_update made v ins after) by_updates) asked4;
+      stored = done.stored;
       fits = within_limits m room all done.fit
           (subst (λ (n : ℕ). has_wide_fold m.message n all.sends ≡ false) room_is (subst (λ (k : MergeRule). has_wide_fold k (room_in (g.G.Group.made sealed)) all.sends ≡ false) c.message-2.ensures fold))
           (subst (λ (n : ℕ). n ≤ 2 ^ 40) (sym taken.sends_are) c.in_ok-part.ensures.few_sends) taken.requests_fit (subst (λ (n : ℕ). n ≤ 2 ^ 40) (sym taken.requests_are) c.in_ok-part.ensures.few_requests);
