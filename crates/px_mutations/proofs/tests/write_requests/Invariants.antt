@@ -1,0 +1,5 @@
+use Rattle.std.proofs.Common.{◌≡◌}
+use Rattle.px_mutations.proofs.tests.write_requests.Given as goal
+
+abbrev pub invariant-loop-vid : goal.invariant-loop-vid
+invariant-loop-vid g l = record { disk : (g.D.Disk.shown l.disk).page_len ≡ 256; requests : l.requests.page_len ≡ 256 }

@@ -1,0 +1,4 @@
+pub mod Turns
+pub mod Effects
+pub mod Applying
+pub mod Deciding
