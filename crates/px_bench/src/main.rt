@@ -1,4 +1,4 @@
-//! Times libraries of px: pages of tuples, files of tuples, the parser of graph text, stores, groupings, programs and their printing, and a superstep.
+//! Times libraries of px: pages of tuples, files of tuples, the parser of graph text, stores, groupings, programs and their printing, a superstep, and a load and a dump.
 //!
 //!     px_bench pages N            fills N pages of tuples and walks them
 //!     px_bench parse              parses the graph text on standard input
@@ -14,15 +14,18 @@
 //!                                 within 64 frames of 262144 bytes and with files of two disks in FOLDER
 //!     px_bench superstep PART N FOLDER
 //!                                 does a part of what that does alone (scan, rank, group), with files of a disk in FOLDER
+//!     px_bench load FOLDER        loads the graph text on standard input into a store and dumps it,
+//!                                 within 64 frames of 262144 bytes and with files of two disks in FOLDER; it tells the seconds of both
 //!     px_bench rank N             loads N vertices, computes them and stores them, in ten rounds
 //!     px_bench print N            prints N values as ranks and as distances
 //!     px_bench                    does a little of each
 //!
 //! What a job came to goes to standard output, and the seconds that it took to standard error.
-//! The files of `streams`, `merge`, `group`, `store`, `small` and `superstep` stay. Without words nothing is timed, and the files are removed.
+//! The files of `streams`, `merge`, `group`, `store`, `small`, `superstep` and `load` stay. Without words nothing is timed, and the files are removed.
 #![tactic(auto)]
 
 mod group;
+mod load;
 mod merge;
 mod pages;
 mod parse;
@@ -35,6 +38,7 @@ mod superstep;
 mod tally;
 mod vertices;
 
+use crate::load::Done as Loaded;
 use crate::store::{Frames, PARTS, Part};
 use crate::superstep::{Done, WORKS, Work};
 use crate::tally::Tally;
@@ -67,6 +71,8 @@ enum Job {
     Superstep(u64),
     /// A part of a superstep of so many vertices, with files of the folder that the last word names.
     Work(Work, u64),
+    /// The text on standard input, with files of the folder that the last word names.
+    Load,
     /// So many vertices.
     Rank(u64),
     /// So many values.
@@ -98,6 +104,10 @@ const LITTLE_TREE: &str = "px_bench_store/f0";
 const LITTLE_SUPERSTEP: &str = "px_bench_superstep";
 
 const LITTLE_VERTICES: u64 = 2_000;
+
+const LITTLE_LOAD: &str = "px_bench_load";
+
+const LITTLE_GRAPH: &[u8; 35] = b"4 1:10 2\n1 2\n# three\n3\n 2 3:7 5\n5 1";
 
 const LITTLE_COUNT: u64 = 100;
 
@@ -152,6 +162,7 @@ fn job_of(words: &[String]) -> Option<Job> {
     match words {
         [] => Some(Job::Little),
         [name] if name.as_str() == "parse" => Some(Job::Parse),
+        [name, _] if name.as_str() == "load" => Some(Job::Load),
         [name, count] => counted_job(name.as_str(), count.parse().ok()?),
         [name, count, _] => filed_job(name.as_str(), count.parse().ok()?),
         [name, part, count, _] => part_job(name.as_str(), part.as_str(), count.parse().ok()?),
@@ -177,6 +188,14 @@ fn print_superstep(rt: &HostRuntime, done: &Done) -> Result<()> {
     println!(rt;
         "superstep: {} sends, {} requests, {} contributed, {} folds, checksum {}",
         done.part.sends, done.part.requests, done.part.contributed, done.folds.count, done.folds.sum
+    )?;
+    Ok(())
+}
+
+fn print_load(rt: &HostRuntime, done: &Loaded) -> Result<()> {
+    println!(rt;
+        "load: {} vertices, {} bytes, checksum {}",
+        done.vertices, done.bytes, done.checksum
     )?;
     Ok(())
 }
@@ -248,6 +267,13 @@ fn little_superstep(rt: HostRuntime) -> Result<()> {
     Ok(())
 }
 
+fn little_load(rt: HostRuntime) -> Result<()> {
+    let mut source = MemSource::new(rt.alloc(), LITTLE_GRAPH, &[])?;
+    print_load(&rt, &load::run(rt, LITTLE_LOAD, &mut source)?)?;
+    fs::remove_dir_all(&rt, LITTLE_LOAD)?;
+    Ok(())
+}
+
 fn do_little(rt: HostRuntime) -> Result<()> {
     little_in_memory(&rt)?;
     little_streams(rt)?;
@@ -255,7 +281,8 @@ fn do_little(rt: HostRuntime) -> Result<()> {
     little_group(rt)?;
     little_store(rt, Frames::Large)?;
     little_store(rt, Frames::Small)?;
-    little_superstep(rt)
+    little_superstep(rt)?;
+    little_load(rt)
 }
 
 fn time_pages(rt: &HostRuntime, pages: u64) -> Result<()> {
@@ -341,6 +368,17 @@ fn time_work(rt: HostRuntime, work: Work, count: u64, folder: Option<&String>) -
     print_tally(&rt, work.name(), tally, work.things())
 }
 
+fn time_load(rt: HostRuntime, folder: Option<&String>) -> Result<()> {
+    let Some(folder) = folder else {
+        bail!("there is no folder");
+    };
+    let mut source = Input::new(rt.stdin());
+    let done = load::run(rt, folder.as_str(), &mut source)?;
+    eprintln!(rt; "{:.6}", done.load.as_secs_f64())?;
+    eprintln!(rt; "{:.6}", done.dump.as_secs_f64())?;
+    print_load(&rt, &done)
+}
+
 fn time_rank(rt: &HostRuntime, count: u64) -> Result<()> {
     let records = rank::build(rt.alloc(), count)?;
     let start = Instant::now(rt)?;
@@ -373,10 +411,11 @@ fn main(rt: HostRuntime) -> Result<()> {
         }
         Some(Job::Superstep(count)) => time_superstep(rt, count, words.last()),
         Some(Job::Work(work, count)) => time_work(rt, work, count, words.last()),
+        Some(Job::Load) => time_load(rt, words.last()),
         Some(Job::Rank(count)) => time_rank(&rt, count),
         Some(Job::Print(count)) => time_print(&rt, count),
         None => bail!(
-            "the words are `pages N`, `parse`, `streams N FOLDER`, `merge N FOLDER`, `group N FOLDER`, `store PART N FOLDER`, `small PART N FOLDER`, `superstep N FOLDER`, `superstep PART N FOLDER`, `rank N` or `print N`"
+            "the words are `pages N`, `parse`, `streams N FOLDER`, `merge N FOLDER`, `group N FOLDER`, `store PART N FOLDER`, `small PART N FOLDER`, `superstep N FOLDER`, `superstep PART N FOLDER`, `load FOLDER`, `rank N` or `print N`"
         ),
     }
 }

@@ -1,5 +1,5 @@
 // Records of a store are loaded, scanned, got and put anew.
-ghost use Rattle.std.specs.Prelude.{◌≡◌, ◌≤◌, true, OnOk, IfOk};
+ghost use Rattle.std.specs.Prelude.{◌≡◌, ◌≤◌, true, None, OnOk, IfOk};
 ghost use Rattle.px_frames.specs.Banks.{IsFrameLen};
 ghost use Rattle.px_meaning.specs.Graph.{room_of};
 ghost use Rattle.px_store.specs.Desks.{IsReady};
@@ -232,7 +232,8 @@ pub fn desk_of<D: Disk>(alloc: Global, disk: &D, bytes: u32, count: u32) -> Resu
     requires page_len { (D.shown disk.now).page_len ≡ bytes }
     requires some { 4 ≤ count }
     requires few { count ≤ 65536 }
-    ensures { IfOk result (λ desk. IsReady true 0 desk (D.shown disk.now)) }
+    ensures ready { IfOk result (λ desk. IsReady true 0 desk (D.shown disk.now)) }
+    ensures owner { IfOk result (λ desk. desk.owner ≡ None) }
 {
     let mut bank = Bank::open(alloc, bytes, &[count, 0], 0)?;
     let cache = Cache::open(bank.lend(0));
