@@ -1,0 +1,11 @@
+use Rattle.std.proofs.Common.{sym, ◌∙◌, ap}
+use Rattle.px_frames.specs.Banks.{BankView}
+use Rattle.px_superstep.proofs.applying.apply_part.Goals as goal
+
+pub apply_with-answer-requires-clause-took : goal.apply_with-answer-requires-clause-took
+apply_with-answer-requires-clause-took g c = λ s rule tells len.
+    c.open-tools.ensures.took s rule tells
+    (len ∙ sym c.requires.scratch_len ∙ sym (c.lend_bench-lent.ensures.lent.work.frame_len ∙ ap (λ (b : BankView). b.frame_len) c.lend_bench-lent.ensures.bank))
+
+pub returns-clause-bank : goal.returns-clause-bank
+returns-clause-bank g c = c.give_bench.ensures ∙ c.lend_bench-lent.ensures.back

@@ -1,0 +1,15 @@
+pub mod Benches
+pub mod Counting
+pub mod Ends
+pub mod Files
+pub mod Gathering
+pub mod LoadTooling
+pub mod Jobs
+pub mod Lending
+pub mod Parting
+pub mod Partial
+pub mod Phases
+pub mod Plans
+pub mod Steps
+pub mod SettleTooling
+pub mod Tooling
