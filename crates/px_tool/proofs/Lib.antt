@@ -1,6 +1,5 @@
-pub mod Owing
-pub mod Refusals
+pub mod Ended
 pub mod Statuses
 pub mod WordsJob
 pub mod WordsNumber
-pub mod WordsText
+pub mod WordsTable

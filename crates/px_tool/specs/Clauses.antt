@@ -1,107 +1,80 @@
 -- What the clauses of a run speak of.
-use Rattle.std.specs.Prelude.{◌≡◌, ◌⊎◌, ℕ, ◌||◌, ◌==◌, nat_lt, if◌then◌else◌, IsTrue, List, ◌++◌, take}
+use Rattle.std.specs.Prelude.{◌≡◌, ◌⊎◌, ℕ, ◌||◌, ◌==◌, nat_lt, if◌then◌else◌, true, IsTrue, List, [], ◌++◌, take}
 use Rattle.px_core.specs.Counts.{Rose}
-use Rattle.px_meaning.specs.GraphText as text
-use Rattle.px_meaning.specs.GraphText.{TextMeaning}
-use Rattle.px_graph_text.specs.Kinds.{kind_of}
-use Rattle.px_plain.specs.declared.read.ReadEnd.{ReadEnd}
-use Rattle.px_plain.specs.declared.read.ReadEnd.TheVariants as reads
-use Rattle.px_plain.specs.declared.job.RunEnd.{RunEnd}
-use Rattle.px_plain.specs.declared.job.RunEnd.TheVariants as ends
+use Rattle.px_core.specs.Shown.{Shown}
+use Rattle.px_load.specs.Stops.{Counts}
+use Rattle.px_superstep.specs.declared.plan.End.TheVariants.{Done, Memory, Graph, Scratch, Source, Sink}
 use Rattle.px_tool.specs.Due.{Due}
-use Rattle.px_tool.specs.Endings.{ending_of, line_of}
+use Rattle.px_tool.specs.Endings.{ending_of, line_of, line_of_end, status_of, text_owed}
 use Rattle.px_tool.specs.declared.ending.Ending.{Ending}
-use Rattle.px_tool.specs.declared.ending.Ending.TheVariants.{Done, Usage, Bad, Twice, Beyond, Limit, Source, Sink, Memory}
+use Rattle.px_tool.specs.declared.ending.Ending.TheVariants.{Ran}
 
--- the ending is one that the words and the text decide
-abbrev pub IsDecided : Ending → Type 0
-IsDecided Done = Unit {0}
-IsDecided Usage = Unit {0}
-IsDecided (Bad line kind) = Unit {0}
-IsDecided (Twice v) = Unit {0}
-IsDecided (Beyond s) = Unit {0}
-IsDecided (Limit n) = Unit {0}
-IsDecided Source = ⊥
-IsDecided Sink = ⊥
-IsDecided Memory = ⊥
+abbrev pub IsStatus : ℕ → Type 0
+IsStatus n = IsTrue (nat_lt n 12)
 
--- the ending comes after the whole input was read
-abbrev pub IsAfterInput : Ending → Type 0
-IsAfterInput Done = Unit {0}
-IsAfterInput Usage = ⊥
-IsAfterInput (Bad line kind) = ⊥
-IsAfterInput (Twice v) = Unit {0}
-IsAfterInput (Beyond s) = Unit {0}
-IsAfterInput (Limit n) = Unit {0}
-IsAfterInput Source = ⊥
-IsAfterInput Sink = Unit {0}
-IsAfterInput Memory = ⊥
+-- the words and the text decide the status. The others are faults and want of memory
+abbrev pub IsDecided : ℕ → Type 0
+IsDecided n = IsTrue (nat_lt n 6 || n == 11)
+
+-- the status rests on the text: its words alone do not decide it
+abbrev pub RestsOnText : ℕ → Type 0
+RestsOnText n = IsTrue (n == 0 || n == 2 || n == 3 || n == 4 || n == 5)
+
+-- and on what the disks hold: it comes after no line was refused
+abbrev pub RestsOnDisks : ℕ → Type 0
+RestsOnDisks n = IsTrue (n == 0 || n == 3 || n == 4 || n == 5)
+
+-- both disks tell what they hold
+pub record DisksTell (graph scratch : Shown) : Type 0 where
+  pub graph_tells : graph.tells ≡ true
+  pub scratch_tells : scratch.tells ≡ true
+
+-- no device was asked
+abbrev pub IsUnasked : ℕ → Type 0
+IsUnasked n = IsTrue (n == 1 || n == 10 || n == 11)
+
+-- the whole input was read
+abbrev pub IsAfterInput : ℕ → Type 0
+IsAfterInput n = IsTrue (n == 0 || n == 3 || n == 4 || n == 5 || n == 9)
+
+-- nothing was written
+abbrev pub IsUnwritten : ℕ → Type 0
+IsUnwritten n = IsTrue (n == 1 || n == 2 || n == 3 || n == 4 || n == 5 || n == 8 || n == 10 || n == 11)
+
+-- a part of the text may have been written
+abbrev pub IsCut : ℕ → Type 0
+IsCut n = IsTrue (n == 6 || n == 7 || n == 9)
+
+-- of each device a fault was counted where the status names it, and none where it does not
+pub record HasFaults (status r r' w w' g g' s s' : ℕ) : Type 0 where
+  pub source : Counts (status == 8) r r'
+  pub sink : Counts (status == 9) w w'
+  pub graph : Counts (status == 6) g g'
+  pub scratch : Counts (status == 7) s s'
+
+-- a run that owes this to each text ended so. `left` and `holds` are what source and sink tell, and `was` and `now` the devices before and after
+pub record HasEnded {R W G S : Type 0} (left : R → List ℕ → Type 0) (holds : W → List ℕ → Type 0) (g s : Shown) (due : List ℕ → Due) (source_was source_now : R) (out_was out_now : W) (graph_was graph_now : G) (scratch_was scratch_now : S) (e : Ending) : Type 0 where
+  pub owed : IsDecided (status_of e) → (l : List ℕ) → (RestsOnText (status_of e) → left source_was l) → (RestsOnDisks (status_of e) → DisksTell g s) → ending_of (due l) ≡ e
+  pub short : (l : List ℕ) → status_of (ending_of (due l)) ≡ 11 → status_of e ≡ 11
+  pub sink : status_of e ≡ 9 → (l : List ℕ) → left source_was l → DisksTell g s → ending_of (due l) ≡ Ran Done
+  pub text : status_of e ≡ 0 → (l h : List ℕ) → left source_was l → DisksTell g s → holds out_was h → holds out_now (h ++ text_owed (due l))
+  pub part : IsCut (status_of e) → (l h : List ℕ) → left source_was l → DisksTell g s → holds out_was h → (n : ℕ) × holds out_now (h ++ take n (text_owed (due l)))
+  pub unwritten : IsUnwritten (status_of e) → out_now ≡ out_was
+  pub read : IsAfterInput (status_of e) → (l : List ℕ) → left source_was l → left source_now []
+  pub source : IsUnasked (status_of e) → source_now ≡ source_was
+  pub graph : IsUnasked (status_of e) → graph_now ≡ graph_was
+  pub scratch : IsUnasked (status_of e) → scratch_now ≡ scratch_was
 
 -- a sink holds one list more and has not failed, or a prefix of that list where its count of faults rose
 abbrev pub Grew : (List ℕ → Type 0) → ℕ → ℕ → List ℕ → List ℕ → Type 0
 Grew holds was now before more = (holds (before ++ more) × (now ≡ was)) ⊎ (((n : ℕ) × holds (before ++ take n more)) × Rose was now)
 
--- the statuses of today
-abbrev pub IsStatus : ℕ → Type 0
-IsStatus n = IsTrue (nat_lt n 6 || n == 8 || n == 9 || n == 10)
-
 -- the line on the error sink of a run that ends with this status, where this is owed
 abbrev pub line_owed : ℕ → Due → List ℕ
-line_owed status owed =
-    if status == 8 then line_of Source else if status == 9 then line_of Sink else if status == 10 then line_of Memory else line_of (ending_of owed)
-
--- the statuses that each have one line on the error sink, whatever is owed
-abbrev pub HasOwnLine : ℕ → Type 0
-HasOwnLine status = IsTrue (status == 1 || status == 8 || status == 9 || status == 10)
-
--- and that line
-abbrev pub own_line : ℕ → List ℕ
-own_line status = if status == 1 then line_of Usage else if status == 8 then line_of Source else if status == 9 then line_of Sink else line_of Memory
-
--- how a job on a graph ends without a text: as is owed, beyond the limits or not halted, or for want of memory
-abbrev pub IsRunEnding : Ending → Ending → Type 0
-IsRunEnding Done owed = ⊥
-IsRunEnding Usage owed = ⊥
-IsRunEnding (Bad line kind) owed = ⊥
-IsRunEnding (Twice v) owed = ⊥
-IsRunEnding (Beyond s) owed = owed ≡ Beyond s
-IsRunEnding (Limit n) owed = owed ≡ Limit n
-IsRunEnding Source owed = ⊥
-IsRunEnding Sink owed = ⊥
-IsRunEnding Memory owed = Unit {0}
-
--- how a run ends whose input gave no graph
-abbrev pub read_ending : ReadEnd → Ending
-read_ending reads.Source = Source
-read_ending reads.Memory = Memory
-read_ending (reads.Bad line kind) = Bad line kind
-read_ending (reads.Twice v) = Twice v
-
-abbrev pub IsReadEnding : Ending → Type 0
-IsReadEnding Done = ⊥
-IsReadEnding Usage = ⊥
-IsReadEnding (Bad line kind) = Unit {0}
-IsReadEnding (Twice v) = Unit {0}
-IsReadEnding (Beyond s) = ⊥
-IsReadEnding (Limit n) = ⊥
-IsReadEnding Source = Unit {0}
-IsReadEnding Sink = ⊥
-IsReadEnding Memory = Unit {0}
-
--- a refusal of the text is the ending
-abbrev pub IsRefusal : TextMeaning → Ending → Type 0
-IsRefusal meaning Done = Unit {0}
-IsRefusal meaning Usage = Unit {0}
-IsRefusal meaning (Bad line kind) = meaning ≡ text.Bad line (kind_of kind)
-IsRefusal meaning (Twice v) = meaning ≡ text.Twice v
-IsRefusal meaning (Beyond s) = Unit {0}
-IsRefusal meaning (Limit n) = Unit {0}
-IsRefusal meaning Source = Unit {0}
-IsRefusal meaning Sink = Unit {0}
-IsRefusal meaning Memory = Unit {0}
-
--- how a run ends that did not come to a halted state
-abbrev pub run_ending : ℕ → RunEnd → Ending
-run_ending most (ends.Beyond n) = Beyond n
-run_ending most ends.Limit = Limit most
-run_ending most ends.Memory = Memory
+line_owed status due =
+    if status == 6 then line_of_end Graph
+    else if status == 7 then line_of_end Scratch
+    else if status == 8 then line_of_end Source
+    else if status == 9 then line_of_end Sink
+    else if status == 10 then line_of_end Memory
+    else line_of (ending_of due)

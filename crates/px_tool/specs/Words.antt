@@ -1,23 +1,19 @@
 -- What the words of the command line ask for.
-use Rattle.std.specs.Prelude.{ℕ, Bool, true, false, not, ◌&&◌, ◌||◌, ◌+◌, ◌-◌, ◌^◌, if◌then◌else◌, nat_le, ◌==◌, List, [], ◌∷◌, fold, take, drop, length, position, Option, Some, None, option_map, codes}
-use Rattle.std.specs.List.{list_all}
+use Rattle.std.specs.Prelude.{ℕ, Bool, true, false, not, ◌&&◌, ◌+◌, ◌-◌, ◌^◌, ◌<◌, ◌≤◌, if◌then◌else◌, nat_le, ◌==◌, List, [], ◌∷◌, fold, take, drop, length, position, bytes_eq, Option, Some, None, option_map, codes}
+use Rattle.std.specs.List.{list_all, list_any}
+use Rattle.px_frames.specs.Banks.{IsFrameLen, is_frame_len}
 use Rattle.px_meaning.specs.Line.{is_digit, with_digit}
 use Rattle.px_tool.specs.declared.words.Job.{Job}
 use Rattle.px_tool.specs.declared.words.Chosen.{Chosen}
 use Rattle.px_tool.specs.declared.words.Chosen.TheVariants.{Reach as ReachFrom, Sssp as SsspFrom, Components as AllComponents, PageRank as PageRankOf}
+use Rattle.px_tool.specs.declared.words.Word.{Word}
+use Rattle.px_tool.specs.declared.words.Word.TheVariants.{Item as TheItem, Named, Other}
 use Rattle.px_tool.specs.declared.words.Kind.{Kind}
 use Rattle.px_tool.specs.declared.words.Kind.TheVariants.{Reach, Sssp, Components, PageRank}
 
 -- a name and its value
 abbrev pub Item : Type 0
 Item = List ℕ × List ℕ
-
--- equal texts
-abbrev pub same_text : List ℕ → List ℕ → Bool
-same_text [] [] = true
-same_text [] (b ∷ bs) = false
-same_text (a ∷ more) [] = false
-same_text (a ∷ more) (b ∷ bs) = a == b && same_text more bs
 
 abbrev pub is_dash : ℕ → Bool
 is_dash b = b == 45
@@ -41,6 +37,12 @@ opened [] = Neither
 opened (a ∷ []) = Neither
 opened (a ∷ b ∷ text) = if is_dash a && is_dash b then cut text else Neither
 
+-- a word of the reader
+abbrev pub opened_as : Word → Opened
+opened_as (TheItem name value) = Whole (name.now, value.now)
+opened_as (Named name) = Name name.now
+opened_as Other = Neither
+
 -- items with one more in front, where they are items
 abbrev pub and_item : Item → Option (List Item) → Option (List Item)
 and_item item None = None
@@ -61,11 +63,10 @@ items_from (Some name) (word ∷ words) = if begins_with_dash word then None els
 -- the first value that items give a name
 abbrev pub value_of : List ℕ → List Item → Option (List ℕ)
 value_of name [] = None
-value_of name (item ∷ items) = if same_text name item.0 then Some item.1 else value_of name items
+value_of name (item ∷ items) = if bytes_eq name item.0 then Some item.1 else value_of name items
 
 abbrev pub has_name : List ℕ → List Item → Bool
-has_name name [] = false
-has_name name (item ∷ items) = same_text name item.0 || has_name name items
+has_name name items = list_any (λ (item : Item). bytes_eq item.0 name) items
 
 -- no name comes twice
 abbrev pub are_different : List Item → Bool
@@ -73,11 +74,19 @@ are_different [] = true
 are_different (item ∷ items) = not (has_name item.0 items) && are_different items
 
 -- the names that an item may have
+unfoldable pub names : List (List ℕ)
+names =
+    codes "program" ∷ codes "from" ∷ codes "rounds" ∷ codes "partitions" ∷ codes "frames" ∷ codes "frame-bytes" ∷ codes "max-supersteps" ∷ codes "seed" ∷ []
+
 abbrev pub is_known : List ℕ → Bool
-is_known name = same_text name (codes "program") || same_text name (codes "from") || same_text name (codes "rounds") || same_text name (codes "max-supersteps")
+is_known name = list_any (λ known. bytes_eq name known) names
+
+-- the place of a name in the table
+abbrev pub place_of : List ℕ → Option ℕ
+place_of name = position (λ known. bytes_eq name known) names
 
 abbrev pub are_known : List Item → Bool
-are_known items = list_all (λ item. is_known item.0) items
+are_known items = list_all (λ (item : Item). is_known item.0) items
 
 -- a number of 1 to 20 decimal digits, of at most the greatest value
 abbrev pub number_of : ℕ → List ℕ → Option ℕ
@@ -86,57 +95,86 @@ number_of greatest text =
     then Some (fold with_digit 0 text)
     else None
 
+-- a value that passes a test
+abbrev pub passing : (ℕ → Bool) → Option ℕ → Option ℕ
+passing test None = None
+passing test (Some n) = if test n then Some n else None
+
+-- a number from the least to the greatest value. Where nothing is said, it is the default
+abbrev pub number_in : ℕ → ℕ → ℕ → Option (List ℕ) → Option ℕ
+number_in least greatest default None = Some default
+number_in least greatest default (Some text) = passing (λ n. nat_le least n) (number_of greatest text)
+
+-- such a number, which is the length of a frame
+abbrev pub frame_len_in : ℕ → ℕ → ℕ → Option (List ℕ) → Option ℕ
+frame_len_in least greatest default text = passing is_frame_len (number_in least greatest default text)
+
 -- the programs, each by its name
 abbrev pub kind_of : List ℕ → Option Kind
 kind_of text =
-    if same_text text (codes "reach") then Some Reach
-    else if same_text text (codes "sssp") then Some Sssp
-    else if same_text text (codes "components") then Some Components
-    else if same_text text (codes "pagerank") then Some PageRank
+    if bytes_eq text (codes "reach") then Some Reach
+    else if bytes_eq text (codes "sssp") then Some Sssp
+    else if bytes_eq text (codes "components") then Some Components
+    else if bytes_eq text (codes "pagerank") then Some PageRank
     else None
 
 -- the vid that a program starts from
 abbrev pub vid_of : List ℕ → Option ℕ
 vid_of text = number_of (2 ^ 64 - 1) text
 
--- a number of rounds or of supersteps
-abbrev pub count_of : List ℕ → Option ℕ
-count_of text = number_of (2 ^ 32 - 1) text
+-- a number of rounds
+abbrev pub rounds_of : List ℕ → Option ℕ
+rounds_of text = number_of (2 ^ 32 - 1) text
 
 -- a program with the values of `from` and of `rounds`, where these names stand: reach and sssp need `from` and refuse `rounds`, pagerank needs `rounds` and refuses `from`, components refuses both
 abbrev pub chosen_by : Kind → Option (List ℕ) → Option (List ℕ) → Option Chosen
 chosen_by Reach (Some from) None = option_map (λ vid. ReachFrom vid) (vid_of from)
 chosen_by Sssp (Some from) None = option_map (λ vid. SsspFrom vid) (vid_of from)
 chosen_by Components None None = Some AllComponents
-chosen_by PageRank None (Some rounds) = option_map (λ count. PageRankOf count) (count_of rounds)
+chosen_by PageRank None (Some rounds) = option_map (λ count. PageRankOf count) (rounds_of rounds)
 chosen_by _ _ _ = None
 
+-- a value, if there is one, and what is made of it
+abbrev pub given : {A B : Type 0} → Option A → (A → Option B) → Option B
+given None make = None
+given (Some a) make = make a
+
+-- what gives each name its value, where it has one
+abbrev pub Values : Type 0
+Values = List ℕ → Option (List ℕ)
+
 -- `program` is required
-abbrev pub program_of : Option (List ℕ) → Option Kind
-program_of None = None
-program_of (Some text) = kind_of text
+abbrev pub chosen_of : Values → Option Chosen
+chosen_of value = given (value (codes "program")) (λ text. given (kind_of text) (λ kind. chosen_by kind (value (codes "from")) (value (codes "rounds"))))
 
-abbrev pub chosen_of : Option Kind → Option (List ℕ) → Option (List ℕ) → Option Chosen
-chosen_of None from rounds = None
-chosen_of (Some kind) from rounds = chosen_by kind from rounds
-
--- the greatest number of supersteps is 1000 where nothing is said
-abbrev pub most_of : Option (List ℕ) → Option ℕ
-most_of None = Some 1000
-most_of (Some text) = count_of text
-
-abbrev pub job_with : Option Chosen → Option ℕ → Option Job
-job_with None most = None
-job_with (Some chosen) None = None
-job_with (Some chosen) (Some most) = Some (record { chosen = chosen; most = most })
+-- the job of values
+unfoldable pub job_by : Values → Option Job
+job_by value =
+    given (chosen_of value) (λ chosen.
+    given (number_in 0 (2 ^ 32 - 1) 1000 (value (codes "max-supersteps"))) (λ most.
+    given (number_in 1 16 4 (value (codes "partitions"))) (λ partitions.
+    given (number_in 1 65536 64 (value (codes "frames"))) (λ frames.
+    given (frame_len_in 256 1048576 262144 (value (codes "frame-bytes"))) (λ frame_bytes.
+    given (number_in 0 (2 ^ 64 - 1) 0 (value (codes "seed"))) (λ seed.
+    Some (record { chosen = chosen; most = most; partitions = partitions; frames = frames; frame_bytes = frame_bytes; seed = seed })))))))
 
 -- the job of items, where each name is known, none comes twice, and the values are as the program needs them
 abbrev pub job_of_items : List Item → Option Job
-job_of_items items =
-    if are_known items && are_different items
-    then job_with (chosen_of (program_of (value_of (codes "program") items)) (value_of (codes "from") items) (value_of (codes "rounds") items)) (most_of (value_of (codes "max-supersteps") items))
-    else None
+job_of_items items = if are_known items && are_different items then job_by (λ name. value_of name items) else None
 
 -- the job that words ask for, or none where they are refused
-abbrev pub job_of : List (List ℕ) → Option Job
+unfoldable pub job_of : List (List ℕ) → Option Job
 job_of words = elim (items_from None words) [ None ↦ None | Some items ↦ job_of_items items ]
+
+abbrev pub IsBetween : ℕ → ℕ → ℕ → Type 0
+IsBetween least greatest n = (least ≤ n) × (n ≤ greatest)
+
+-- the numbers of a job are in their ranges
+pub record IsInRange (job : Job) : Type 0 where
+  pub most : job.most < 2 ^ 32
+  pub partition : 1 ≤ job.partitions
+  pub partitions : job.partitions ≤ 16
+  pub frame : 1 ≤ job.frames
+  pub frames : job.frames ≤ 65536
+  pub frame_len : IsFrameLen job.frame_bytes
+  pub seed : job.seed < 2 ^ 64

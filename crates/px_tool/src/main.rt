@@ -6,24 +6,28 @@ mod run;
 mod words;
 mod work;
 
-ghost use Rattle.std.specs.Prelude.{◌≡◌, ◌≢◌, ◌<◌, ◌↔◌, ℕ, List, ◌++◌, take, None};
-ghost use Rattle.px_core.specs.Counts.{Rose};
-ghost use Rattle.px_tool.specs.Clauses.{Grew, HasOwnLine, IsStatus, line_owed, own_line};
-ghost use Rattle.px_tool.specs.Due.{due, words_of as bytes_of_words};
-ghost use Rattle.px_tool.specs.Endings.{ending_of, status_of, text_owed};
-ghost use Rattle.px_tool.specs.Words.{job_of};
+ghost use Rattle.std.specs.Prelude.{◌≡◌, ℕ, List, IfOk};
+ghost use Rattle.px_superstep.specs.declared.plan.End.TheVariants.{Memory};
+ghost use Rattle.px_tool.specs.Clauses.{Grew, IsStatus};
+ghost use Rattle.px_tool.specs.Endings.{line_of_end};
 
 use crate::ending::Ending;
 use crate::run::{px_run, report};
-use px_core::{ListTurns, NullDisk, Sink, Source};
+use px_core::{SeedTurns, Sink};
+use px_filedisk::FileDisk;
+use px_plan_matrix::End;
 use px_stdio::{Input, Output};
-use std::alloc::Global;
 use std::io::ErrorKind;
 use std::process::ExitCode;
 use std::{env, io};
 
+// The folders of the page files, in the current folder.
+const GRAPH: &str = "px_scratch/graph";
+
+const SCRATCH: &str = "px_scratch/scratch";
+
 // The words after the program's name.
-fn words_of(rt: &HostRuntime) -> io::Result<Vec<String>> {
+fn words_after_name(rt: &HostRuntime) -> io::Result<Vec<String>> {
     let mut words = Vec::new(rt.alloc());
     for word in env::args(rt)?.skip(1) {
         words.push(word)?;
@@ -31,67 +35,51 @@ fn words_of(rt: &HostRuntime) -> io::Result<Vec<String>> {
     Ok(words)
 }
 
+// The same, where words that are not UTF-8 are refused, as no words are.
+fn words_of(rt: &HostRuntime) -> io::Result<Vec<String>> {
+    match words_after_name(rt) {
+        Err(e) if e.kind() == ErrorKind::InvalidData => Ok(Vec::new(rt.alloc())),
+        words => words,
+    }
+}
+
 // Says on the error sink that there is no memory, and answers that status.
 fn no_memory<E: Sink>(errs: &mut E) -> u8
     ensures status { result ≡ 10 }
-    ensures line { (e : List ℕ) → E.holds errs.old e → Grew (E.holds errs.new) (E.faults errs.old) (E.faults errs.new) e (own_line 10) }
+    ensures line { (e : List ℕ) → E.holds errs.old e → Grew (E.holds errs.new) (E.faults errs.old) (E.faults errs.new) e (line_of_end Memory) }
 {
-    report(Ending::Memory, errs);
-    Ending::Memory.status()
+    let ending = Ending::Ran(End::Memory);
+    report(ending, errs);
+    ending.status()
 }
 
-// The run over devices of the caller, without disks, in one order of turns. It says what `px_run` says,
-// but for want of memory before it begins.
-fn run_over<R: Source, W: Sink, E: Sink>(
-    alloc: Global,
-    words: &[String],
-    source: &mut R,
-    out: &mut W,
-    errs: &mut E,
-) -> u8
-    ensures statuses { IsStatus result }
-    ensures status { result < 6 → (l : List ℕ) → R.left source.old l → result ≡ status_of (ending_of (due (bytes_of_words words.now) l)) }
-    ensures usage { result ≢ 10 → (result ≡ 1 ↔ (job_of (bytes_of_words words.now) ≡ None)) }
-    ensures text { result ≡ 0 → (l h : List ℕ) → R.left source.old l → W.holds out.old h → W.holds out.new (h ++ text_owed (due (bytes_of_words words.now) l)) }
-    ensures part { result ≡ 9 → (l h : List ℕ) → R.left source.old l → W.holds out.old h → (n : ℕ) × W.holds out.new (h ++ take n (text_owed (due (bytes_of_words words.now) l))) }
-    ensures unwritten { result ≢ 0 → result ≢ 9 → out.new ≡ out.old }
-    ensures source_failed { result ≡ 8 → Rose (R.faults source.old) (R.faults source.new) }
-    ensures source_no_fault { result ≢ 8 → R.faults source.new ≡ R.faults source.old }
-    ensures sink_failed { result ≡ 9 → Rose (W.faults out.old) (W.faults out.new) }
-    ensures sink_no_fault { result ≢ 9 → W.faults out.new ≡ W.faults out.old }
-    ensures unread { result ≡ 1 → source.new ≡ source.old }
-    ensures quiet { result ≡ 0 → errs.new ≡ errs.old }
-    ensures line { result ≢ 0 → (l e : List ℕ) → R.left source.old l → E.holds errs.old e
-        → Grew (E.holds errs.new) (E.faults errs.old) (E.faults errs.new) e (line_owed result (due (bytes_of_words words.now) l)) }
-    ensures own_line { HasOwnLine result → (e : List ℕ) → E.holds errs.old e → Grew (E.holds errs.new) (E.faults errs.old) (E.faults errs.new) e (own_line result) }
+// The run over standard input and output and the files of both disks. The only error is want of memory.
+fn run_over_files<E: Sink>(rt: HostRuntime, errs: &mut E) -> io::Result<u8>
+    ensures { IfOk result IsStatus }
 {
-    let Ok(mut turns) = ListTurns::new(alloc, &[]) else {
-        return no_memory(errs);
-    };
-    let mut graph = NullDisk::new();
-    let mut scratch = NullDisk::new();
-    px_run(
+    let alloc = rt.alloc();
+    let words = words_of(&rt)?;
+    let mut graph = FileDisk::new(rt, alloc, GRAPH)?;
+    let mut scratch = FileDisk::new(rt, alloc, SCRATCH)?;
+    let mut source = Input::new(rt.stdin());
+    let mut out = Output::new(rt.stdout());
+    let status = px_run(
         alloc,
-        words,
-        source,
-        out,
+        &words,
+        &mut source,
+        &mut out,
         errs,
         &mut graph,
         &mut scratch,
-        &mut turns,
-    )
+        &mut SeedTurns::new(),
+    );
+    Ok(status)
 }
 
-// Words that are not UTF-8 are refused, as no words are.
 fn main(rt: HostRuntime) -> ExitCode {
-    let mut source = Input::new(rt.stdin());
-    let mut out = Output::new(rt.stdout());
     let mut errs = Output::new(rt.stderr());
-    let status = match words_of(&rt) {
-        Ok(words) => run_over(rt.alloc(), &words, &mut source, &mut out, &mut errs),
-        Err(e) if e.kind() == ErrorKind::InvalidData => {
-            run_over(rt.alloc(), &[], &mut source, &mut out, &mut errs)
-        }
+    let status = match run_over_files(rt, &mut errs) {
+        Ok(status) => status,
         Err(_) => no_memory(&mut errs),
     };
     ExitCode::from(status)

@@ -1,8 +1,9 @@
 // The words of the command line, read by hand.
-ghost use Rattle.std.specs.Prelude.{◌≡◌, ℕ, ◌==◌, [], true, ◌<◌, ◌^◌, List, SomeIff, map, position, string_bytes};
+ghost use Rattle.std.specs.Prelude.{◌≡◌, ℕ, ◌==◌, [], true, ◌<◌, ◌≤◌, ◌^◌, List, SomeIff, IfSome, MatchOption, None, map, length, position, bytes_eq, string_bytes, option_copied};
+ghost use Rattle.px_frames.specs.Banks.{is_frame_len};
 ghost use Rattle.px_meaning.specs.Line.{is_digit, with_digit};
-ghost use Rattle.px_tool.specs.Words.{job_of, kind_of, number_of, opened, cut, begins_with_dash};
-ghost use Rattle.px_tool.specs.WordsFound.{name_of, opened_as, with_value, chosen_found, job_found, job_after, LeadsTo};
+ghost use Rattle.px_tool.specs.Words.{job_of, job_by, chosen_of, kind_of, number_of, number_in, frame_len_in, opened, opened_as, cut, begins_with_dash, place_of, IsBetween, IsInRange};
+ghost use Rattle.px_tool.specs.declared.words.TheConstants.{NAMES};
 
 /// The program that the words name, with the number that it needs: the vid that it starts from, or its rounds.
 #[derive(Clone, Copy, Debug, PartialEq, Eq)]
@@ -13,20 +14,16 @@ pub enum Chosen {
     PageRank { rounds: u32 },
 }
 
-/// What the words ask for: a program, in so many supersteps at most.
+/// What the words ask for: a program, in so many supersteps at most, over so many partitions, with so many frames of so
+/// many bytes, and the seed of the turns.
 #[derive(Clone, Copy, Debug, PartialEq, Eq)]
 pub struct Job {
     pub chosen: Chosen,
     pub most: u32,
-}
-
-/// A name that an item may have.
-#[derive(Clone, Copy)]
-enum Name {
-    Program,
-    From,
-    Rounds,
-    MaxSupersteps,
+    pub partitions: u32,
+    pub frames: u32,
+    pub frame_bytes: u32,
+    pub seed: u64,
 }
 
 /// A program that may be named.
@@ -45,179 +42,231 @@ enum Word<'a> {
     Other,
 }
 
-/// The values found so far.
+/// The values found so far, each at the place of its name in the table.
 #[derive(Clone, Copy)]
-struct Found {
-    kind: Option<Kind>,
-    from: Option<u64>,
-    rounds: Option<u32>,
-    most: Option<u32>,
+struct Found<'a> {
+    texts: [Option<&'a [u8]>; NAMES.len()],
+    ghost whole: { length texts ≡ length NAMES },
 }
 
-/// The values found so far, and what the next word is.
+/// The values found so far, and the name whose value is the next word, if there is one.
 #[derive(Clone, Copy)]
-enum Reading {
-    AtItem(Found),
-    AtValue(Found, Name),
+struct Reading<'a> {
+    found: Found<'a>,
+    waiting: Option<&'a [u8]>,
 }
 
-// The greatest number of supersteps where nothing is said.
-const DEFAULT_MOST: u32 = 1000;
+// The names that an item may have.
+const NAMES: [&[u8]; 8] = [
+    b"program",
+    b"from",
+    b"rounds",
+    b"partitions",
+    b"frames",
+    b"frame-bytes",
+    b"max-supersteps",
+    b"seed",
+];
 
 /// The job that the words ask for, or none where they are refused.
 pub fn read_words(words: &[String]) -> Option<Job>
-    ensures { result ≡ job_of (map string_bytes words.now) }
+    ensures job { result ≡ job_of (map string_bytes words.now) }
+    ensures ranges { IfSome result IsInRange }
 {
-    let mut reading = Reading::new();
-    for word in words {
-        reading = reading.read(word.as_bytes())?;
-    }
-    reading.job()
+    Reading::new().read_all(words)?.job()
 }
 
-impl Reading {
+impl<'a> Reading<'a> {
+    ghost use Rattle.px_tool.specs.WordsFound.{job_after, LeadsTo};
+
     fn new() -> Self
         ensures { (words : List (List ℕ)) → job_after result words ≡ job_of words }
     {
-        Reading::AtItem(Found {
-            kind: None,
-            from: None,
-            rounds: None,
-            most: None,
-        })
+        Found::new().at_item()
+    }
+
+    // None where one of the words is refused.
+    fn read_all(mut self, words: &'a [String]) -> Option<Self>
+        ensures { MatchOption result (job_after self.entry (map string_bytes words.now) ≡ None) (λ end. job_after self.entry (map string_bytes words.now) ≡ job_after end []) }
+    {
+        for word in words {
+            self = self.read(word.as_bytes())?;
+        }
+        Some(self)
     }
 
     // None where this word is refused, whatever comes after it.
-    fn read(self, word: &[u8]) -> Option<Self>
-        ensures { LeadsTo self word.now result }
+    fn read(self, word: &'a [u8]) -> Option<Self>
+        ensures { LeadsTo self.entry word.now result }
     {
-        match self {
-            Reading::AtItem(found) => found.read_item(word),
-            Reading::AtValue(found, name) => found.read_value(name, word),
+        match self.waiting {
+            Some(name) => self.found.read_value(name, word),
+            None => self.found.read_item(word),
         }
     }
 
     fn job(self) -> Option<Job>
-        ensures { result ≡ job_after self [] }
+        ensures job { result ≡ job_after self.entry [] }
+        ensures ranges { IfSome result IsInRange }
     {
-        match self {
-            Reading::AtItem(found) => found.job(),
-            Reading::AtValue(..) => None,
+        match self.waiting {
+            Some(_) => None,
+            None => self.found.job(),
         }
     }
 }
 
-impl Found {
-    fn read_item(self, word: &[u8]) -> Option<Reading>
-        ensures { LeadsTo (Reading.AtItem self) word.now result }
+impl<'a> Found<'a> {
+    ghost use Rattle.px_tool.specs.WordsFound.{value_in, TakesItem, LeadsTo};
+
+    fn new() -> Self
+        ensures { (name : List ℕ) → value_in result name ≡ None }
+    {
+        Found {
+            texts: [None; NAMES.len()],
+        }
+    }
+
+    fn at_item(self) -> Reading<'a>
+        ensures { result ≡ record { found = self.entry; waiting = None } }
+    {
+        Reading {
+            found: self,
+            waiting: None,
+        }
+    }
+
+    fn read_item(self, word: &'a [u8]) -> Option<Reading<'a>>
+        ensures { LeadsTo (record { found = self.entry; waiting = None }) word.now result }
     {
         match opened(word) {
-            Word::Item(text, value) => {
-                let found = self.with(name_of(text)?, value)?;
-                Some(Reading::AtItem(found))
+            Word::Item(name, value) => {
+                let found = self.with(name, value)?;
+                Some(found.at_item())
             }
-            Word::Named(text) => {
-                let name = name_of(text)?;
-                Some(Reading::AtValue(self, name))
-            }
+            Word::Named(name) => Some(Reading {
+                found: self,
+                waiting: Some(name),
+            }),
             Word::Other => None,
         }
     }
 
-    fn read_value(self, name: Name, word: &[u8]) -> Option<Reading>
-        ensures { LeadsTo (Reading.AtValue self name) word.now result }
+    fn read_value(self, name: &'a [u8], word: &'a [u8]) -> Option<Reading<'a>>
+        ensures { LeadsTo (record { found = self.entry; waiting = Some name.entry }) word.now result }
     {
         if begins_with_dash(word) {
             return None;
         }
         let found = self.with(name, word)?;
-        Some(Reading::AtItem(found))
+        Some(found.at_item())
     }
 
-    // The values with one more; none where the name has one already, or it is no such value.
-    fn with(self, name: Name, value: &[u8]) -> Option<Self>
-        ensures { result ≡ with_value name value.now self }
+    // The values with one more; none where the name is not in the table, or has a value already.
+    fn with(mut self, name: &[u8], value: &'a [u8]) -> Option<Self>
+        ensures { TakesItem self.entry name.now value.now result }
     {
-        match name {
-            Name::Program => self.with_program(value),
-            Name::From => self.with_from(value),
-            Name::Rounds => self.with_rounds(value),
-            Name::MaxSupersteps => self.with_most(value),
-        }
-    }
-
-    fn with_program(self, value: &[u8]) -> Option<Self>
-        ensures { result ≡ with_value Name.Program value.now self }
-    {
-        if self.kind.is_some() {
+        let place = place_of(name)?;
+        let before = self.texts[place];
+        if before.is_some() {
             return None;
         }
-        let kind = kind_of(value)?;
-        Some(Found {
-            kind: Some(kind),
-            ..self
-        })
+        self.texts[place] = Some(value);
+        Some(self)
     }
 
-    fn with_from(self, value: &[u8]) -> Option<Self>
-        ensures { result ≡ with_value Name.From value.now self }
+    // The value of a name.
+    fn value(&self, name: &[u8]) -> Option<&'a [u8]>
+        ensures { option_copied result ≡ value_in self.now name.now }
     {
-        if self.from.is_some() {
-            return None;
-        }
-        let from = number_of(u64::MAX, value)?;
-        Some(Found {
-            from: Some(from),
-            ..self
-        })
+        let place = place_of(name)?;
+        self.texts[place]
     }
 
-    fn with_rounds(self, value: &[u8]) -> Option<Self>
-        ensures { result ≡ with_value Name.Rounds value.now self }
+    #[tactic(auto, unfolding(crate::specs::Words::job_by))]
+    fn job(&self) -> Option<Job>
+        ensures job { result ≡ job_by (value_in self.now) }
+        ensures ranges { IfSome result IsInRange }
     {
-        if self.rounds.is_some() {
-            return None;
-        }
-        let rounds = number_of(u32::MAX.into(), value)?;
-        Some(Found {
-            rounds: Some(rounds as u32),
-            ..self
+        Some(Job {
+            chosen: self.chosen()?,
+            most: self.number(b"max-supersteps", 0, u32::MAX.into(), 1000)? as u32,
+            partitions: self.number(b"partitions", 1, 16, 4)? as u32,
+            frames: self.number(b"frames", 1, 65536, 64)? as u32,
+            frame_bytes: self.frame_len(b"frame-bytes", 256, 1048576, 262144)? as u32,
+            seed: self.number(b"seed", 0, u64::MAX, 0)?,
         })
-    }
-
-    fn with_most(self, value: &[u8]) -> Option<Self>
-        ensures { result ≡ with_value Name.MaxSupersteps value.now self }
-    {
-        if self.most.is_some() {
-            return None;
-        }
-        let most = number_of(u32::MAX.into(), value)?;
-        Some(Found {
-            most: Some(most as u32),
-            ..self
-        })
-    }
-
-    fn job(self) -> Option<Job>
-        ensures { result ≡ job_found self }
-    {
-        let chosen = self.chosen()?;
-        let most = self.most.unwrap_or(DEFAULT_MOST);
-        Some(Job { chosen, most })
     }
 
     // None where no program is named, its number is missing, or a number stands that it has no use for.
-    fn chosen(self) -> Option<Chosen>
-        ensures { result ≡ chosen_found self }
+    fn chosen(&self) -> Option<Chosen>
+        ensures { result ≡ chosen_of (value_in self.now) }
     {
-        match (self.kind?, self.from, self.rounds) {
-            (Kind::Reach, Some(from), None) => Some(Chosen::Reach { from }),
-            (Kind::Sssp, Some(from), None) => Some(Chosen::Sssp { from }),
+        let kind = kind_of(self.value(b"program")?)?;
+        match (kind, self.value(b"from"), self.value(b"rounds")) {
+            (Kind::Reach, Some(from), None) => {
+                let from = number_of(u64::MAX, from)?;
+                Some(Chosen::Reach { from })
+            }
+            (Kind::Sssp, Some(from), None) => {
+                let from = number_of(u64::MAX, from)?;
+                Some(Chosen::Sssp { from })
+            }
             (Kind::Components, None, None) => Some(Chosen::Components),
-            (Kind::PageRank, None, Some(rounds)) => Some(Chosen::PageRank { rounds }),
+            (Kind::PageRank, None, Some(rounds)) => {
+                let rounds = number_of(u32::MAX.into(), rounds)? as u32;
+                Some(Chosen::PageRank { rounds })
+            }
             _ => None,
         }
     }
+
+    // A number from the least to the greatest value; the default where nothing is said.
+    fn number(&self, name: &[u8], least: u64, greatest: u64, default: u64) -> Option<u64>
+        requires above { least ≤ default }
+        requires below { default ≤ greatest }
+        ensures value { result ≡ number_in least greatest default (value_in self.now name.now) }
+        ensures range { IfSome result (IsBetween least greatest) }
+    {
+        let Some(text) = self.value(name) else {
+            return Some(default);
+        };
+        let number = number_of(greatest, text)?;
+        if number < least {
+            return None;
+        }
+        Some(number)
+    }
+
+    // Such a number, which is the length of a frame.
+    fn frame_len(&self, name: &[u8], least: u64, greatest: u64, default: u64) -> Option<u64>
+        requires above { least ≤ default }
+        requires below { default ≤ greatest }
+        ensures value { result ≡ frame_len_in least greatest default (value_in self.now name.now) }
+        ensures range { IfSome result (IsBetween least greatest) }
+        ensures len { IfSome result (λ len. is_frame_len len ≡ true) }
+    {
+        let len = self.number(name, least, greatest, default)?;
+        if !is_frame_len(len) {
+            return None;
+        }
+        Some(len)
+    }
+}
+
+// The place of a name in the table.
+fn place_of(name: &[u8]) -> Option<usize>
+    ensures place { result ≡ place_of name.now }
+    ensures inside { IfSome result (λ place. place < length NAMES) }
+{
+    place_in(&NAMES, name)
+}
+
+fn place_in(table: &[&[u8]], name: &[u8]) -> Option<usize>
+    ensures place { result ≡ position (λ known. bytes_eq name.now known.now) table.now }
+    ensures inside { IfSome result (λ place. place < length table.now) }
+{
+    table.iter().position(|known| name == *known)
 }
 
 fn opened(word: &[u8]) -> Word<'_>
@@ -251,20 +300,25 @@ fn begins_with_dash(word: &[u8]) -> bool
     matches!(word, [b'-', ..])
 }
 
-fn name_of(text: &[u8]) -> Option<Name>
-    ensures { result ≡ name_of text.now }
+// Whether this is the length of a frame.
+fn is_frame_len(number: u64) -> bool
+    ensures { result ≡ is_frame_len number }
 {
-    if text == b"program".as_slice() {
-        Some(Name::Program)
-    } else if text == b"from".as_slice() {
-        Some(Name::From)
-    } else if text == b"rounds".as_slice() {
-        Some(Name::Rounds)
-    } else if text == b"max-supersteps".as_slice() {
-        Some(Name::MaxSupersteps)
-    } else {
-        None
-    }
+    matches!(
+        number,
+        256 | 512
+            | 1024
+            | 2048
+            | 4096
+            | 8192
+            | 16384
+            | 32768
+            | 65536
+            | 131072
+            | 262144
+            | 524288
+            | 1048576
+    )
 }
 
 fn kind_of(text: &[u8]) -> Option<Kind>

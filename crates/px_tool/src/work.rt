@@ -1,116 +1,126 @@
-// A job on a graph that was read, from its entries to its text.
-ghost use Rattle.std.specs.Prelude.{◌≡◌, ◌+◌, All, IfOk, IfErr};
-ghost use Rattle.px_meaning.specs.Graph.{IsMap, room_of};
-ghost use Rattle.px_meaning.specs.GraphText.{Good};
-ghost use Rattle.px_meaning.specs.Meaning.{meaning};
-ghost use Rattle.px_plain.specs.Reading.{IsGiven};
-ghost use Rattle.px_plain.specs.Texts.{graph_in};
-ghost use Rattle.px_record.specs.Held.{IsRoomOf};
-ghost use Rattle.px_tool.specs.Clauses.{IsRunEnding, run_ending};
-ghost use Rattle.px_tool.specs.Due.{due_of_text, due_of_outcome, frame_bytes, DueText};
-ghost use Rattle.px_tool.specs.Endings.{ending_of};
+// The run of a job, whichever program it names.
+ghost use Rattle.std.specs.Prelude.{◌≡◌};
+ghost use Rattle.px_tool.specs.Clauses.{HasEnded, HasFaults};
+ghost use Rattle.px_tool.specs.Due.{program_of, setup_of, due_of_job};
+ghost use Rattle.px_tool.specs.Endings.{status_of};
+ghost use Rattle.px_tool.specs.Words.{IsInRange};
 
 use crate::ending::Ending;
-use crate::words::{self, Chosen};
-use px_frames::{Buf, Frame};
-use px_plain::{Entry, Job, RunEnd};
-use px_program::{NoVerdict, Program};
+use crate::words::{Chosen, Job};
+use px_core::{Disk, Sink, Source, Turns};
+use px_plan_matrix::{ConnectorKind, GroupKind, JoinKind, Plan, Setup, StoreKind, dispatch};
+use px_program::Program;
 use px_programs::{Components, PageRank, Reach, Sssp};
-use px_record::VertexBuf;
-use std::alloc::{AllocError, Global};
+use std::alloc::Global;
 
-/// The bytes of a frame.
-pub const FRAME_BYTES: u32 = 262144;
-
-/// A record for one vertex, over a frame of its own.
-pub fn record_of(alloc: Global, frame_bytes: u32) -> Result<VertexBuf, AllocError>
-    requires { IsRoomOf (room_of frame_bytes) frame_bytes }
-    ensures { IfOk result (λ v. v.room ≡ room_of frame_bytes) }
+// What a job is run with. Each runs by the base plan.
+fn setup_of(job: Job) -> Setup
+    ensures { result ≡ setup_of job }
 {
-    let frame = Frame::new(alloc, frame_bytes)?;
-    Ok(VertexBuf::over(frame, frame_bytes / 2 - 16))
-}
-
-// A buffer for one message, over a frame of its own.
-fn buffer_of(alloc: Global, frame_bytes: u32) -> Result<Buf, AllocError>
-    requires { IsRoomOf (room_of frame_bytes) frame_bytes }
-    ensures { IfOk result (λ b. b.limit + 13 ≡ room_of frame_bytes) }
-{
-    let frame = Frame::new(alloc, frame_bytes)?;
-    Ok(Buf::over(frame, frame_bytes / 2 - 29))
-}
-
-// How a run ends that did not come to a halted state.
-fn ending_of_run(end: RunEnd, most: u32) -> Ending
-    ensures { result ≡ run_ending most end }
-{
-    match end {
-        RunEnd::Beyond { superstep } => Ending::Beyond { superstep },
-        RunEnd::Limit => Ending::Limit { most },
-        RunEnd::Memory => Ending::Memory,
-    }
-}
-
-// Runs a program on the vertices of these entries, in frames of so many bytes.
-fn run_program<P: Program<Verdict = NoVerdict>>(
-    alloc: Global,
-    frame_bytes: u32,
-    program: P,
-    most: u32,
-    entries: Vec<Entry>,
-    v: &mut VertexBuf,
-) -> Result<Vec<u8>, Ending>
-    requires frame { IsRoomOf (room_of frame_bytes) frame_bytes }
-    requires room { v.old.room ≡ room_of frame_bytes }
-    requires map { IsMap (graph_in entries.items) }
-    requires given { All (IsGiven (room_of frame_bytes)) entries.items }
-    ensures text { IfOk result (λ t. due_of_outcome (P.meaning program) (meaning (P.meaning program) (room_of frame_bytes) (graph_in entries.items) most) ≡ DueText t.items) }
-    ensures ending { IfErr result (λ e. IsRunEnding e (ending_of (due_of_outcome (P.meaning program) (meaning (P.meaning program) (room_of frame_bytes) (graph_in entries.items) most)))) }
-{
-    let Ok(mut fold) = buffer_of(alloc, frame_bytes) else {
-        return Err(Ending::Memory);
+    let plan = Plan {
+        join: JoinKind::Full,
+        group: GroupKind::Sort,
+        connector: ConnectorKind::Plain,
+        store: StoreKind::BTree,
     };
-    let mut job = Job::new(program, frame_bytes / 2 - 16, entries);
-    match job.run(alloc, most, v, &mut fold) {
-        Ok(()) => match job.text(alloc, v) {
-            Ok(text) => Ok(text),
-            Err(_) => Err(Ending::Memory),
-        },
-        Err(end) => Err(ending_of_run(end, most)),
+    Setup {
+        plan,
+        partitions: job.partitions,
+        frames: job.frames,
+        frame_bytes: job.frame_bytes,
+        max: job.most,
+        summary: false,
+        stats: false,
     }
 }
 
-/// Runs a job on the vertices of these entries. The text is that of the halted state.
-pub fn run_graph(
+// Runs this program as the job says.
+fn run_program<P: Program, R: Source, W: Sink, E: Sink, G: Disk, S: Disk, T: Turns>(
     alloc: Global,
-    job: words::Job,
-    entries: Vec<Entry>,
-    v: &mut VertexBuf,
-) -> Result<Vec<u8>, Ending>
-    requires room { v.old.room ≡ room_of frame_bytes }
-    requires map { IsMap (graph_in entries.items) }
-    requires given { All (IsGiven (room_of frame_bytes)) entries.items }
-    ensures text { IfOk result (λ t. due_of_text job (Good (graph_in entries.items)) ≡ DueText t.items) }
-    ensures ending { IfErr result (λ e. IsRunEnding e (ending_of (due_of_text job (Good (graph_in entries.items))))) }
+    program: P,
+    job: Job,
+    source: &mut R,
+    out: &mut W,
+    errs: &mut E,
+    graph: &mut G,
+    scratch: &mut S,
+    turns: &mut T,
+) -> Ending
+    requires ranges { IsInRange job }
+    requires program { P.meaning program ≡ program_of job.chosen }
+    ensures ended { HasEnded R.left W.holds (G.shown graph.old) (S.shown scratch.old) (due_of_job job) source.old source.new out.old out.new graph.old graph.new scratch.old scratch.new result }
+    ensures faults { HasFaults (status_of result) (R.faults source.old) (R.faults source.new) (W.faults out.old) (W.faults out.new) (G.shown graph.old).faults (G.shown graph.new).faults (S.shown scratch.old).faults (S.shown scratch.new).faults }
+    ensures known { result ≡ Ending.Usage → ⊥ }
+    ensures errs { errs.new ≡ errs.old }
 {
-    let most = job.most;
+    let setup = setup_of(job);
+    let end = dispatch(
+        alloc, program, &setup, source, out, errs, graph, scratch, turns,
+    );
+    Ending::Ran(end)
+}
+
+/// Runs the job's program on the text of the source, and writes nothing to the error sink.
+pub fn run_job<R: Source, W: Sink, E: Sink, G: Disk, S: Disk, T: Turns>(
+    alloc: Global,
+    job: Job,
+    source: &mut R,
+    out: &mut W,
+    errs: &mut E,
+    graph: &mut G,
+    scratch: &mut S,
+    turns: &mut T,
+) -> Ending
+    requires ranges { IsInRange job }
+    ensures ended { HasEnded R.left W.holds (G.shown graph.old) (S.shown scratch.old) (due_of_job job) source.old source.new out.old out.new graph.old graph.new scratch.old scratch.new result }
+    ensures faults { HasFaults (status_of result) (R.faults source.old) (R.faults source.new) (W.faults out.old) (W.faults out.new) (G.shown graph.old).faults (G.shown graph.new).faults (S.shown scratch.old).faults (S.shown scratch.new).faults }
+    ensures known { result ≡ Ending.Usage → ⊥ }
+    ensures errs { errs.new ≡ errs.old }
+{
     match job.chosen {
-        Chosen::Reach { from } => {
-            run_program(alloc, FRAME_BYTES, Reach::new(from), most, entries, v)
-        }
-        Chosen::Sssp { from } => {
-            run_program(alloc, FRAME_BYTES, Sssp::new(from), most, entries, v)
-        }
-        Chosen::Components => {
-            run_program(alloc, FRAME_BYTES, Components::new(), most, entries, v)
-        }
+        Chosen::Reach { from } => run_program(
+            alloc,
+            Reach::new(from),
+            job,
+            source,
+            out,
+            errs,
+            graph,
+            scratch,
+            turns,
+        ),
+        Chosen::Sssp { from } => run_program(
+            alloc,
+            Sssp::new(from),
+            job,
+            source,
+            out,
+            errs,
+            graph,
+            scratch,
+            turns,
+        ),
+        Chosen::Components => run_program(
+            alloc,
+            Components::new(),
+            job,
+            source,
+            out,
+            errs,
+            graph,
+            scratch,
+            turns,
+        ),
         Chosen::PageRank { rounds } => run_program(
             alloc,
-            FRAME_BYTES,
             PageRank::new(rounds),
-            most,
-            entries,
-            v,
+            job,
+            source,
+            out,
+            errs,
+            graph,
+            scratch,
+            turns,
         ),
     }
 }

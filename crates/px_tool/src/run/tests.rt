@@ -2,16 +2,18 @@
 ghost use Rattle.px_core.specs.Memory.{IsLeft};
 
 use crate::run::px_run;
-use px_core::{Failed, ListTurns, MemSink, MemSource, NullDisk, Source, Turns};
+use px_core::{Failed, HighTurns, ListTurns, MemSink, MemSource, SeedTurns, Source, Turns};
+use px_memdisk::MemDisk;
 use std::alloc::{AllocError, Global};
 use std::process::Abort;
 use std::test::Fail;
 
-/// A source in memory that counts the calls after one that failed.
+/// A source in memory that counts its calls, and those after one that failed.
 #[derive(Drop)]
 struct Watched {
     source: MemSource,
     failed: bool,
+    calls: u32,
     after: u32,
 }
 
@@ -21,6 +23,7 @@ impl Source for Watched {
     ghost faults = { λ s. s.source.faults };
 
     fn read(&mut self, into: &mut [u8]) -> Result<usize, Failed> {
+        self.calls = self.calls.saturating_add(1);
         self.after = self.after.saturating_add(u32::from(self.failed));
         match self.source.read(into) {
             Ok(count) => Ok(count),
@@ -34,13 +37,23 @@ impl Source for Watched {
 
 /// Turns that note how often they were started, and the last seed.
 #[derive(Drop)]
-struct Noted {
-    turns: ListTurns,
+struct Noted<T: Turns> {
+    turns: T,
     starts: u32,
     seed: Option<u64>,
 }
 
-impl Turns for Noted {
+impl<T: Turns> Noted<T> {
+    fn new(turns: T) -> Noted<T> {
+        Noted {
+            turns,
+            starts: 0,
+            seed: None,
+        }
+    }
+}
+
+impl<T: Turns> Turns for Noted<T> {
     fn start(&mut self, seed: u64) {
         self.starts = self.starts.saturating_add(1);
         self.seed = Some(seed);
@@ -58,6 +71,8 @@ struct Setting<'a> {
     source: &'a [u64],
     out: &'a [u64],
     errs: &'a [u64],
+    graph: &'a [u64],
+    scratch: &'a [u64],
     most: u64,
 }
 
@@ -65,6 +80,8 @@ const WORKING: Setting = Setting {
     source: &[],
     out: &[],
     errs: &[],
+    graph: &[],
+    scratch: &[],
     most: 4096,
 };
 
@@ -83,6 +100,16 @@ const FIRST_WRITE: Setting = Setting {
     ..WORKING
 };
 
+const NO_GRAPH: Setting = Setting {
+    graph: &[1],
+    ..WORKING
+};
+
+const NO_SCRATCH: Setting = Setting {
+    scratch: &[1],
+    ..WORKING
+};
+
 const FULL: Setting = Setting {
     most: 20,
     ..WORKING
@@ -93,6 +120,11 @@ const MUTE: Setting = Setting {
     ..WORKING
 };
 
+const MUTE_NO_GRAPH: Setting = Setting {
+    errs: &[1],
+    ..NO_GRAPH
+};
+
 /// A run and its devices.
 #[derive(Drop)]
 struct Ran {
@@ -100,7 +132,6 @@ struct Ran {
     source: Watched,
     out: MemSink,
     errs: MemSink,
-    turns: Noted,
 }
 
 fn strings(alloc: Global, words: &str) -> Result<Vec<String>, AllocError> {
@@ -111,36 +142,39 @@ fn strings(alloc: Global, words: &str) -> Result<Vec<String>, AllocError> {
     Ok(strings)
 }
 
-fn run(alloc: Global, setting: Setting, words: &str, text: &str) -> Result<Ran, AllocError> {
+fn run<T: Turns>(
+    alloc: Global,
+    setting: Setting,
+    words: &str,
+    text: &str,
+    turns: &mut T,
+) -> Result<Ran, AllocError> {
     let words = strings(alloc, words)?;
     let mut source = Watched {
         source: MemSource::new(alloc, text.as_bytes(), setting.source)?,
         failed: false,
+        calls: 0,
         after: 0,
     };
     let mut out = MemSink::new(alloc, setting.most, setting.out)?;
     let mut errs = MemSink::new(alloc, 4096, setting.errs)?;
-    let mut turns = Noted {
-        turns: ListTurns::new(alloc, &[])?,
-        starts: 0,
-        seed: None,
-    };
+    let mut graph = MemDisk::new(alloc, setting.graph)?;
+    let mut scratch = MemDisk::new(alloc, setting.scratch)?;
     let status = px_run(
         alloc,
         &words,
         &mut source,
         &mut out,
         &mut errs,
-        &mut NullDisk::new(),
-        &mut NullDisk::new(),
-        &mut turns,
+        &mut graph,
+        &mut scratch,
+        turns,
     );
     Ok(Ran {
         status,
         source,
         out,
         errs,
-        turns,
     })
 }
 
@@ -169,6 +203,31 @@ const ONE_ROUND: &str = "--program pagerank --rounds 1";
 const FOUR: &str = "1 2\n2 3\n3\n4 1\n";
 
 const FOUR_REACHED: &str = "1 1 2:1\n2 1 3:1\n3 1\n4 0 1:1\n#superstep 3 aggregate 1 vertices 4\n";
+
+const LARGEST: &str = "0 18446744073709551615\n18446744073709551615 0\n";
+
+const LARGEST_REACHED: &str =
+    "0 1 18446744073709551615:1\n18446744073709551615 1 0:1\n#superstep 3 aggregate 0 vertices 2\n";
+
+const LEAST: &str = "--program reach --from 1 --partitions 2 --frames 26 --frame-bytes 256";
+
+// How many calls of each disk there are in that run.
+const GRAPH_CALLS: u64 = 3;
+
+const SCRATCH_CALLS: u64 = 71;
+
+const SMALL_REACH: &str = "--program reach --from 1 --frame-bytes 256";
+
+const SMALL_SSSP: &str = "--program sssp --from 1 --frame-bytes 256";
+
+const STAR: &str = "1 2 3 4 5 6 7 8\n";
+
+const STAR_REACHED: &str =
+    "1 1 2:1 3:1 4:1 5:1 6:1 7:1 8:1\n2 1\n3 1\n4 1\n5 1\n6 1\n7 1\n8 1\n#superstep 2 aggregate 7 vertices 8\n";
+
+const PAIR: &str = "1 2\n2 1\n3\n";
+
+const PAIR_LABELLED: &str = "1 1 2:1\n2 1 1:1\n3 3\n#superstep 3 aggregate 0 vertices 3\n";
 
 const EMPTY: &str = "#superstep 0 aggregate 0 vertices 0\n";
 
@@ -226,9 +285,9 @@ const CASES: &[Case] = &[
     (
         WORKING,
         "--program reach --from 0",
-        "0 18446744073709551615\n18446744073709551615 0\n",
+        LARGEST,
         0,
-        "0 1 18446744073709551615:1\n18446744073709551615 1 0:1\n#superstep 3 aggregate 0 vertices 2\n",
+        LARGEST_REACHED,
         "",
     ),
     (
@@ -247,13 +306,39 @@ const CASES: &[Case] = &[
         "1 0\n2 inf 1:1\n#superstep 1 aggregate 1 vertices 2\n",
         "",
     ),
+    (WORKING, "--program components", PAIR, 0, PAIR_LABELLED, ""),
     (
         WORKING,
-        "--program components",
-        "1 2\n2 1\n3\n",
-        0,
-        "1 1 2:1\n2 1 1:1\n3 3\n#superstep 3 aggregate 0 vertices 3\n",
+        "--program components --partitions 4 --frames 29",
+        PAIR,
+        11,
         "",
+        "px: needs 30 frames, has 29\n",
+    ),
+    (
+        WORKING,
+        "--program components --partitions 4 --frames 30",
+        PAIR,
+        0,
+        PAIR_LABELLED,
+        "",
+    ),
+    (WORKING, SMALL_REACH, STAR, 0, STAR_REACHED, ""),
+    (
+        WORKING,
+        SMALL_REACH,
+        "1 2 3 4 5 6 7 8 9\n",
+        2,
+        "",
+        "px: line 1: wide\n",
+    ),
+    (
+        WORKING,
+        SMALL_SSSP,
+        STAR,
+        4,
+        "",
+        "px: beyond the limits in superstep 1\n",
     ),
     (
         WORKING,
@@ -316,21 +401,32 @@ const CASES: &[Case] = &[
     (MUTE, REACH, "1 x\n", 2, "", ""),
     (MUTE, REACH, "3\n3\n", 3, "", ""),
     (MUTE, TWO_STEPS, FOUR, 5, "", ""),
+    (NO_GRAPH, REACH, FOUR, 6, "", "px: graph disk failed\n"),
+    (NO_SCRATCH, REACH, FOUR, 7, "", "px: scratch disk failed\n"),
+    (MUTE_NO_GRAPH, REACH, FOUR, 6, "", ""),
+    (
+        MUTE,
+        "--program components --partitions 4 --frames 29",
+        PAIR,
+        11,
+        "",
+        "",
+    ),
 ];
 
 fn assert_runs(rt: &impl Abort, alloc: Global, cases: &[Case]) -> Result<(), Fail> {
     for (setting, words, text, status, out, errs) in cases {
-        let run = run(alloc, *setting, words, text)?;
+        let mut turns = Noted::new(HighTurns::new());
+        let run = run(alloc, *setting, words, text, &mut turns)?;
         assert_eq!(rt; run.out.bytes(), out.as_bytes());
         assert_eq!(rt; run.errs.bytes(), errs.as_bytes());
         assert_eq!(rt; run.status, *status, "{words}");
         let refused = *status == 1;
         let seed = if refused { None } else { Some(0) };
-        assert_eq!(rt;
-            (run.turns.seed, run.turns.starts),
-            (seed, u32::from(!refused))
-        );
+        assert_eq!(rt; (turns.seed, turns.starts), (seed, u32::from(!refused)));
         assert_eq!(rt; run.source.after, 0);
+        let is_unread = refused || *status == 11;
+        assert!(rt; !is_unread || run.source.calls == 0);
     }
     Ok(())
 }
@@ -349,4 +445,79 @@ fn vertex_that_passes_room(rt: HostRuntime) -> Result<(), Fail> {
         (MUTE, SSSP, text.as_str(), 4, "", ""),
     ];
     assert_runs(&rt, rt.alloc(), &cases)
+}
+
+// The run of the largest vid in this order of turns, which are started once with the seed.
+fn assert_turns<T: Turns>(
+    rt: &impl Abort,
+    alloc: Global,
+    words: &str,
+    turns: T,
+) -> Result<(), Fail> {
+    let mut turns = Noted::new(turns);
+    let run = run(alloc, WORKING, words, LARGEST, &mut turns)?;
+    assert_eq!(rt; run.status, 0);
+    assert_eq!(rt; run.out.bytes(), LARGEST_REACHED.as_bytes());
+    assert_eq!(rt; (turns.seed, turns.starts), (Some(7), 1));
+    Ok(())
+}
+
+#[test]
+fn any_turns(rt: HostRuntime) -> Result<(), Fail> {
+    let alloc = rt.alloc();
+    for words in [
+        "--program reach --from 0 --seed 7 --partitions 1",
+        "--program reach --from 0 --seed 7 --partitions 3",
+        "--program reach --from 0 --seed 7 --partitions 16",
+    ] {
+        assert_turns(&rt, alloc, words, ListTurns::new(alloc, &[])?)?;
+        assert_turns(&rt, alloc, words, HighTurns::new())?;
+        assert_turns(&rt, alloc, words, SeedTurns::new())?;
+    }
+    Ok(())
+}
+
+// Whether a run in the least frames wrote all, or else it ended with this status and line and wrote a prefix.
+fn is_whole(
+    rt: &impl Abort,
+    alloc: Global,
+    setting: Setting,
+    status: u8,
+    line: &str,
+) -> Result<bool, Fail> {
+    let run = run(alloc, setting, LEAST, FOUR, &mut HighTurns::new())?;
+    if run.status == 0 {
+        assert_eq!(rt; run.out.bytes(), FOUR_REACHED.as_bytes());
+        return Ok(true);
+    }
+    assert_eq!(rt; run.status, status);
+    assert!(rt; FOUR_REACHED.as_bytes().starts_with(run.out.bytes()));
+    assert_eq!(rt; run.errs.bytes(), line.as_bytes());
+    Ok(false)
+}
+
+#[test]
+fn each_call_of_the_graph_disk_fails_in_turn(rt: HostRuntime) -> Result<(), Fail> {
+    for call in 1..=GRAPH_CALLS + 1 {
+        let setting = Setting {
+            graph: &[call],
+            ..WORKING
+        };
+        let whole = is_whole(&rt, rt.alloc(), setting, 6, "px: graph disk failed\n")?;
+        assert_eq!(rt; whole, call > GRAPH_CALLS);
+    }
+    Ok(())
+}
+
+#[test]
+fn each_call_of_the_scratch_disk_fails_in_turn(rt: HostRuntime) -> Result<(), Fail> {
+    for call in 1..=SCRATCH_CALLS + 1 {
+        let setting = Setting {
+            scratch: &[call],
+            ..WORKING
+        };
+        let whole = is_whole(&rt, rt.alloc(), setting, 7, "px: scratch disk failed\n")?;
+        assert_eq!(rt; whole, call > SCRATCH_CALLS);
+    }
+    Ok(())
 }

@@ -1,26 +1,87 @@
-use Rattle.std.proofs.Common.{◌≡◌, ap, subst, sym, ◌∙◌}
-use Rattle.px_tool.specs.Clauses.{HasOwnLine, IsStatus, line_owed, own_line}
+use Rattle.std.proofs.Common.{◌≡◌, List, ℕ, ap, subst, sym, ◌∙◌}
+use Rattle.px_tool.specs.Clauses.{Grew, IsStatus, RestsOnDisks, RestsOnText, line_owed}
 use Rattle.px_tool.specs.Due.{due, words_of}
 use Rattle.px_tool.specs.Endings.{line_of, status_of}
-use Rattle.px_tool.proofs.Statuses.{is_status, is_sink, line_is, own_line_is, own_line_is_said}
+use Rattle.px_tool.proofs.Statuses.{is_status, is_usage, is_done, line_is, rises, stays, decided_of}
 use Rattle.px_tool.proofs.run.px_run.Goals as goal
 
 pub returns-clause-statuses : goal.returns-clause-statuses
-returns-clause-statuses g c = subst IsStatus (sym c.status.ensures) (is_status c.run_to_end-ending.result)
+returns-clause-statuses g c = subst IsStatus (sym c.status.ensures) (is_status c.run_words-ending.result)
+
+pub returns-clause-status : goal.returns-clause-status
+returns-clause-status g c = rw c.status.ensures (λ decided l said told. sym (ap status_of (c.run_words-ending.ensures.ended.owed decided l said told)))
+
+pub returns-clause-usage : goal.returns-clause-usage
+returns-clause-usage g c =
+    let usage = c.run_words-ending.ensures.usage in
+    (λ is. usage.0 (is_usage c.run_words-ending.result (sym c.status.ensures ∙ is)), λ none. c.status.ensures ∙ ap status_of (usage.1 none))
+
+pub returns-clause-short : goal.returns-clause-short
+returns-clause-short g c = λ l is. c.status.ensures ∙ c.run_words-ending.ensures.ended.short l is
+
+pub returns-clause-complete : goal.returns-clause-complete
+returns-clause-complete g c = λ no_source no_sink no_graph no_scratch memory l left tell.
+    let end = c.run_words-ending in
+    let decided = decided_of end.result _ _ _ _ _ _ _ _ end.ensures.faults no_source no_sink no_graph no_scratch (λ is. memory (c.status.ensures ∙ is)) in
+    c.status.ensures ∙ sym (ap status_of (end.ensures.ended.owed decided l (λ _. left) (λ _. tell)))
+
+pub returns-clause-text : goal.returns-clause-text
+returns-clause-text g c = rw c.status.ensures c.run_words-ending.ensures.ended.text
 
 pub returns-clause-part : goal.returns-clause-part
-returns-clause-part g c = λ is l h left holds. c.run_to_end-ending.ensures.part (is_sink c.run_to_end-ending.result (sym c.status.ensures ∙ is)) l h left holds
+returns-clause-part g c = rw c.status.ensures c.run_words-ending.ensures.ended.part
+
+pub returns-clause-unwritten : goal.returns-clause-unwritten
+returns-clause-unwritten g c = rw c.status.ensures c.run_words-ending.ensures.ended.unwritten
+
+pub returns-clause-graph_failed : goal.returns-clause-graph_failed
+returns-clause-graph_failed g c = rw c.status.ensures (rises (status_of c.run_words-ending.result) 6 _ _ c.run_words-ending.ensures.faults.graph)
+
+pub returns-clause-graph_no_fault : goal.returns-clause-graph_no_fault
+returns-clause-graph_no_fault g c = rw c.status.ensures (stays (status_of c.run_words-ending.result) 6 _ _ c.run_words-ending.ensures.faults.graph)
+
+pub returns-clause-scratch_failed : goal.returns-clause-scratch_failed
+returns-clause-scratch_failed g c = rw c.status.ensures (rises (status_of c.run_words-ending.result) 7 _ _ c.run_words-ending.ensures.faults.scratch)
+
+pub returns-clause-scratch_no_fault : goal.returns-clause-scratch_no_fault
+returns-clause-scratch_no_fault g c = rw c.status.ensures (stays (status_of c.run_words-ending.result) 7 _ _ c.run_words-ending.ensures.faults.scratch)
+
+pub returns-clause-source_failed : goal.returns-clause-source_failed
+returns-clause-source_failed g c = rw c.status.ensures (rises (status_of c.run_words-ending.result) 8 _ _ c.run_words-ending.ensures.faults.source)
+
+pub returns-clause-source_no_fault : goal.returns-clause-source_no_fault
+returns-clause-source_no_fault g c = rw c.status.ensures (stays (status_of c.run_words-ending.result) 8 _ _ c.run_words-ending.ensures.faults.source)
+
+pub returns-clause-sink_failed : goal.returns-clause-sink_failed
+returns-clause-sink_failed g c = rw c.status.ensures (rises (status_of c.run_words-ending.result) 9 _ _ c.run_words-ending.ensures.faults.sink)
+
+pub returns-clause-sink_no_fault : goal.returns-clause-sink_no_fault
+returns-clause-sink_no_fault g c = rw c.status.ensures (stays (status_of c.run_words-ending.result) 9 _ _ c.run_words-ending.ensures.faults.sink)
+
+pub returns-clause-sink_owed : goal.returns-clause-sink_owed
+returns-clause-sink_owed g c = rw c.status.ensures (λ is l left tell. ap status_of (c.run_words-ending.ensures.ended.sink is l left tell))
+
+pub returns-clause-read : goal.returns-clause-read
+returns-clause-read g c = rw c.status.ensures c.run_words-ending.ensures.ended.read
+
+pub returns-clause-unasked : goal.returns-clause-unasked
+returns-clause-unasked g c = rw c.status.ensures c.run_words-ending.ensures.ended.source
+
+pub returns-clause-unasked_graph : goal.returns-clause-unasked_graph
+returns-clause-unasked_graph g c = rw c.status.ensures c.run_words-ending.ensures.ended.graph
+
+pub returns-clause-unasked_scratch : goal.returns-clause-unasked_scratch
+returns-clause-unasked_scratch g c = rw c.status.ensures c.run_words-ending.ensures.ended.scratch
+
+pub returns-clause-quiet : goal.returns-clause-quiet
+returns-clause-quiet g c = λ is. c.report.ensures.quiet (is_done c.run_words-ending.result (sym c.status.ensures ∙ is)) ∙ c.run_words-ending.ensures.errs
 
 pub returns-clause-line : goal.returns-clause-line
-returns-clause-line g c = λ not l e left holds.
-    let end = c.run_to_end-ending.result in
-    let owed = due (words_of c.args.words.now) l in
-    let line : line_owed c.status.result owed ≡ line_of end = ap (λ s. line_owed s owed) c.status.ensures ∙ line_is end owed (λ decided. c.run_to_end-ending.ensures.ending decided l left) in
-    rw line (c.report.ensures.line (λ h. not (c.status.ensures ∙ ap status_of h)) e holds)
-
-pub returns-clause-own_line : goal.returns-clause-own_line
-returns-clause-own_line g c = λ own e holds.
-    let end = c.run_to_end-ending.result in
-    let of_end : HasOwnLine (status_of end) = subst HasOwnLine c.status.ensures own in
-    let line : own_line c.status.result ≡ line_of end = ap own_line c.status.ensures ∙ own_line_is end of_end in
-    rw line (c.report.ensures.line (own_line_is_said end of_end) e holds)
+returns-clause-line g c = λ not l e said told held.
+    let end = c.run_words-ending in
+    let of_end = due (words_of c.args.words.now) l in
+    let line : line_owed c.status.result of_end ≡ line_of end.result =
+    ap (λ n. line_owed n of_end) c.status.ensures
+    ∙ line_is end.result of_end (λ decided. end.ensures.ended.owed decided l (λ rests. said (subst RestsOnText (sym c.status.ensures) rests)) (λ rests. told (subst RestsOnDisks (sym c.status.ensures) rests))) in
+    let grew = subst (λ x. (h : List ℕ) → g.E.Sink.holds x h → Grew (g.E.Sink.holds c.report.new.errs) (g.E.Sink.faults x) (g.E.Sink.faults c.report.new.errs) h (line_of end.result)) end.ensures.errs (c.report.ensures.line (λ is. not (c.status.ensures ∙ ap status_of is))) in
+    rw line (grew e held)

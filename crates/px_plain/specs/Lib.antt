@@ -1,8 +1,0 @@
-pub mod Ends
-pub mod Entries
-pub mod Jobs
-pub mod Phase
-pub mod Posts
-pub mod Reading
-pub mod Runs
-pub mod Texts
