@@ -2,7 +2,6 @@ pub mod Bits
 pub mod Counts
 pub mod Memory
 pub mod Moved
-pub mod Null
 pub mod Partition
 pub mod Picks
 pub mod Seeded

@@ -3,7 +3,6 @@
 
 mod disk;
 mod memory;
-mod null;
 mod script;
 mod sink;
 mod source;
@@ -13,7 +12,6 @@ mod vid;
 
 pub use disk::Disk;
 pub use memory::{MemSink, MemSource};
-pub use null::NullDisk;
 pub use script::Script;
 pub use sink::{Sink, write_all};
 pub use source::Source;

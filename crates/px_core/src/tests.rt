@@ -1,10 +1,10 @@
 // What no clause says: values from outside, and each trait used through its bound.
-ghost use Rattle.std.specs.Prelude.{◌≡◌, ◌≢◌, ◌<◌, ◌⊎◌, ℕ, List, [], ◌∷◌, ◌++◌, length, take, drop, Some, IfOk, OnOk, OnErr, IsTrue};
+ghost use Rattle.std.specs.Prelude.{◌≡◌, ◌<◌, ◌⊎◌, ℕ, List, ◌++◌, take, drop, IfOk, OnOk, OnErr};
 ghost use Rattle.px_core.specs.Counts.{Rose};
 
 use crate::{
-    Disk, Failed, HighTurns, ListTurns, MemSink, MemSource, NullDisk, SeedTurns, Sink, Source,
-    Turns, part_of, write_all,
+    Failed, HighTurns, ListTurns, MemSink, MemSource, SeedTurns, Sink, Source, Turns, part_of,
+    write_all,
 };
 use std::alloc::Global;
 use std::test::Fail;
@@ -40,34 +40,11 @@ fn write_here(sink: &mut MemSink, bytes: &[u8]) -> Result<(), Failed>
     write_all(sink, bytes)
 }
 
-// Whether each call of a disk without pages fails.
-fn refuses_all<D: Disk>(disk: &mut D) -> bool
-    requires { (D.shown disk.old).page_len ≡ 0 }
-{
-    disk.clear(1).is_err()
-        && disk.write(1, 0, &[]).is_err()
-        && disk.read(1, 0, &mut []).is_err()
-        && disk.start(256).is_err()
-}
-
 fn turn<T: Turns>(turns: &mut T, ready: u32) -> u32
     requires { 0 < ready }
 {
     turns.start(7);
     turns.pick(ready)
-}
-
-// Writes a page to each of two files. On a disk that tells, both hold it afterwards.
-fn write_two<D: Disk>(disk: &mut D, a: u32, b: u32, page: &[u8]) -> Result<(), Failed>
-    requires page_len { length page.now ≡ (D.shown disk.old).page_len }
-    requires apart { a ≢ b }
-    ensures first { (D.shown disk.old).files a ≡ Some [] → OnOk result ((D.shown disk.new).files a ≡ Some (page.now ∷ [])) }
-    ensures second { (D.shown disk.old).files b ≡ Some [] → OnOk result ((D.shown disk.new).files b ≡ Some (page.now ∷ [])) }
-    ensures cause { OnErr result (Rose (D.shown disk.old).faults (D.shown disk.new).faults) }
-{
-    disk.write(a, 0, page)?;
-    disk.write(b, 0, page)?;
-    Ok(())
 }
 
 #[test]
@@ -200,12 +177,4 @@ fn seeded_turns_begin_anew(rt: HostRuntime) {
         }
     }
     assert_eq!(rt; turn(&mut turns, 0xffff), 10);
-}
-
-#[test]
-fn the_null_disk_refuses_every_call(rt: HostRuntime) {
-    let mut disk = NullDisk::new();
-    assert!(rt; refuses_all(&mut disk));
-    assert!(rt; write_two(&mut disk, 1, 2, &[]).is_err());
-    assert_eq!(rt; (disk.reads(), disk.writes()), (0, 0));
 }
