@@ -1,0 +1,295 @@
+// The yardstick for a whole run, in plain Rust: `whole --program P [--from V] [--rounds K]` reads a graph text on standard input
+// into a vector of vertices, takes supersteps until all have halted and no message is left, and writes the text of the vertices.
+// It keeps all in memory: a vertex is found by std's hash map, and of the messages to a vertex their merge alone is kept.
+// It writes the bytes that px writes of the same words and text.
+use std::collections::HashMap;
+use std::env;
+use std::error::Error;
+use std::io::{self, BufWriter, Read, Write};
+
+const CHUNK: usize = 262_144;
+const WHOLE: u64 = 1_000_000_000_000;
+const RESTART: u64 = 150_000_000_000;
+
+/// A vertex, and the merge of the messages that came to it.
+struct Vertex {
+    vid: u64,
+    halt: bool,
+    value: Option<u64>,
+    edges: Vec<(u64, u32)>,
+    inbox: Option<u64>,
+}
+
+impl Vertex {
+    fn new(vid: u64, edges: Vec<(u64, u32)>) -> Vertex {
+        Vertex {
+            vid,
+            halt: false,
+            value: None,
+            edges,
+            inbox: None,
+        }
+    }
+}
+
+/// What a vertex knows of its superstep.
+struct At {
+    superstep: u64,
+    count: u64,
+}
+
+/// What a superstep sends and contributes.
+#[derive(Default)]
+struct Outbox {
+    messages: Vec<(u64, u64)>,
+    contributed: u64,
+}
+
+impl Outbox {
+    fn send(&mut self, to: u64, message: u64) {
+        self.messages.push((to, message));
+    }
+
+    fn contribute(&mut self, n: u64) {
+        self.contributed = self.contributed.saturating_add(n);
+    }
+}
+
+trait Program {
+    fn compute(&self, at: &At, vertex: &mut Vertex, message: Option<u64>, out: &mut Outbox);
+
+    fn merge(a: u64, b: u64) -> u64 {
+        a.min(b)
+    }
+
+    fn print(value: u64, to: &mut dyn Write) -> io::Result<()> {
+        write!(to, "{value}")
+    }
+}
+
+struct Reach {
+    from: u64,
+}
+
+struct Sssp {
+    from: u64,
+}
+
+struct Components;
+
+struct PageRank {
+    rounds: u64,
+}
+
+impl Program for Reach {
+    fn compute(&self, at: &At, vertex: &mut Vertex, message: Option<u64>, out: &mut Outbox) {
+        vertex.halt = true;
+        let is_first = at.superstep == 0 && vertex.vid == self.from;
+        let is_reached = at.superstep > 0 && message.is_some() && vertex.value != Some(1);
+        if is_first || is_reached {
+            vertex.value = Some(1);
+            out.contribute(1);
+            for edge in &vertex.edges {
+                out.send(edge.0, 0);
+            }
+        } else if at.superstep == 0 {
+            vertex.value = Some(0);
+        }
+    }
+}
+
+impl Program for Sssp {
+    fn compute(&self, at: &At, vertex: &mut Vertex, message: Option<u64>, out: &mut Outbox) {
+        vertex.halt = true;
+        let least = vertex.value.unwrap_or(u64::MAX);
+        let found = match message {
+            _ if at.superstep == 0 && vertex.vid == self.from => Some(0),
+            Some(distance) if at.superstep > 0 && distance < least => Some(distance),
+            _ => None,
+        };
+        vertex.value = Some(found.unwrap_or(least));
+        if let Some(distance) = found {
+            out.contribute(1);
+            for edge in &vertex.edges {
+                out.send(edge.0, distance.saturating_add(edge.1.into()));
+            }
+        }
+    }
+
+    fn print(value: u64, to: &mut dyn Write) -> io::Result<()> {
+        if value == u64::MAX {
+            to.write_all(b"inf")
+        } else {
+            write!(to, "{value}")
+        }
+    }
+}
+
+impl Program for Components {
+    fn compute(&self, at: &At, vertex: &mut Vertex, message: Option<u64>, out: &mut Outbox) {
+        vertex.halt = true;
+        let found = match (message, vertex.value) {
+            _ if at.superstep == 0 => vertex.vid,
+            (Some(least), None) => least.min(vertex.vid),
+            (Some(least), Some(value)) if least < value => least,
+            _ => return,
+        };
+        vertex.value = Some(found);
+        out.contribute(1);
+        for edge in &vertex.edges {
+            out.send(edge.0, found);
+        }
+    }
+}
+
+impl Program for PageRank {
+    fn compute(&self, at: &At, vertex: &mut Vertex, message: Option<u64>, out: &mut Outbox) {
+        vertex.halt = at.superstep >= self.rounds;
+        let count = at.count.max(1);
+        let rank = if at.superstep == 0 {
+            WHOLE / count
+        } else if at.superstep <= self.rounds {
+            let walked = u128::from(message.unwrap_or(0)) * 85 / 100;
+            (RESTART / count).saturating_add(walked as u64)
+        } else {
+            return;
+        };
+        vertex.value = Some(rank);
+        out.contribute(rank);
+        if vertex.halt || vertex.edges.is_empty() {
+            return;
+        }
+        let share = rank / vertex.edges.len() as u64;
+        for edge in &vertex.edges {
+            out.send(edge.0, share);
+        }
+    }
+
+    fn merge(a: u64, b: u64) -> u64 {
+        a.saturating_add(b)
+    }
+}
+
+/// The vertices, and the place of each vid.
+struct Graph {
+    vertices: Vec<Vertex>,
+    places: HashMap<u64, usize>,
+}
+
+impl Graph {
+    fn of(vertices: Vec<Vertex>) -> Graph {
+        let places = vertices.iter().enumerate().map(|(i, v)| (v.vid, i)).collect();
+        Graph { vertices, places }
+    }
+
+    // A vid without a vertex gets one.
+    fn deliver<P: Program>(&mut self, messages: &[(u64, u64)]) {
+        for &(to, message) in messages {
+            let place = *self.places.entry(to).or_insert_with(|| {
+                self.vertices.push(Vertex::new(to, Vec::new()));
+                self.vertices.len() - 1
+            });
+            let inbox = &mut self.vertices[place].inbox;
+            *inbox = Some(inbox.map_or(message, |sum| P::merge(sum, message)));
+        }
+    }
+}
+
+/// The number of supersteps and the last aggregate.
+struct Outcome {
+    supersteps: u64,
+    aggregate: u64,
+}
+
+fn run<P: Program>(program: &P, graph: &mut Graph) -> Outcome {
+    let mut outcome = Outcome {
+        supersteps: 0,
+        aggregate: 0,
+    };
+    // A vertex that a message made is counted from the superstep after that on.
+    let mut count = graph.vertices.len() as u64;
+    let mut out = Outbox::default();
+    loop {
+        let is_active = |v: &Vertex| !v.halt || v.inbox.is_some();
+        if !graph.vertices.iter().any(is_active) {
+            return outcome;
+        }
+        let at = At {
+            superstep: outcome.supersteps,
+            count,
+        };
+        out.messages.clear();
+        out.contributed = 0;
+        for vertex in graph.vertices.iter_mut().filter(|v| is_active(v)) {
+            let message = vertex.inbox.take();
+            program.compute(&at, vertex, message, &mut out);
+        }
+        count = graph.vertices.len() as u64;
+        graph.deliver::<P>(&out.messages);
+        outcome.supersteps += 1;
+        outcome.aggregate = out.contributed;
+    }
+}
+
+fn write_text<P: Program>(graph: &mut Graph, outcome: &Outcome) -> io::Result<()> {
+    let mut to = BufWriter::with_capacity(CHUNK, io::stdout().lock());
+    graph.vertices.sort_unstable_by_key(|v| v.vid);
+    for vertex in &graph.vertices {
+        write!(to, "{} ", vertex.vid)?;
+        match vertex.value {
+            Some(value) => P::print(value, &mut to)?,
+            None => to.write_all(b"-")?,
+        }
+        for (target, weight) in &vertex.edges {
+            write!(to, " {target}:{weight}")?;
+        }
+        to.write_all(b"\n")?;
+    }
+    let Outcome { supersteps, aggregate } = outcome;
+    let count = graph.vertices.len();
+    writeln!(to, "#superstep {supersteps} aggregate {aggregate} vertices {count}")?;
+    to.flush()
+}
+
+fn edge_of(field: &str) -> Option<(u64, u32)> {
+    match field.split_once(':') {
+        Some((target, weight)) => Some((target.parse().ok()?, weight.parse().ok()?)),
+        None => Some((field.parse().ok()?, 1)),
+    }
+}
+
+// None for a line without a vertex.
+fn vertex_of(line: &str) -> Option<Result<Vertex, Box<dyn Error>>> {
+    let mut fields = line.split_ascii_whitespace();
+    let vid = fields.next().filter(|field| !field.starts_with('#'))?;
+    let vertex = vid.parse().ok().and_then(|vid| {
+        let edges: Option<Vec<_>> = fields.map(edge_of).collect();
+        Some(Vertex::new(vid, edges?))
+    });
+    Some(vertex.ok_or_else(|| format!("a bad line: {line}").into()))
+}
+
+fn answer<P: Program>(program: &P) -> Result<(), Box<dyn Error>> {
+    let mut text = String::new();
+    io::stdin().lock().read_to_string(&mut text)?;
+    let mut vertices = text.lines().filter_map(vertex_of).collect::<Result<Vec<_>, _>>()?;
+    drop(text);
+    vertices.sort_unstable_by_key(|v| v.vid);
+    let mut graph = Graph::of(vertices);
+    let outcome = run(program, &mut graph);
+    write_text::<P>(&mut graph, &outcome)?;
+    Ok(())
+}
+
+fn main() -> Result<(), Box<dyn Error>> {
+    let words: Vec<String> = env::args().skip(1).collect();
+    let value_of = |name: &str| words.iter().position(|w| w == name).and_then(|at| words.get(at + 1));
+    let number_of = |name: &str| value_of(name).ok_or("a number is missing")?.parse::<u64>().map_err(|_| "no number");
+    match value_of("--program").map(String::as_str) {
+        Some("reach") => answer(&Reach { from: number_of("--from")? }),
+        Some("sssp") => answer(&Sssp { from: number_of("--from")? }),
+        Some("components") => answer(&Components),
+        Some("pagerank") => answer(&PageRank { rounds: number_of("--rounds")? }),
+        _ => Err("usage: whole --program reach|sssp|components|pagerank [--from V] [--rounds K]".into()),
+    }
+}
