@@ -5,10 +5,10 @@ use Rattle.std.proofs.lemmas.List.{append_assoc, append-nil, take_at, take_all, 
 use Rattle.px_frames.specs.Lending.{fitted}
 use Rattle.px_meaning.specs.Graph.{Vertex, fresh, vertex_size}
 use Rattle.px_record.specs.declared.body.Header.{Header}
-use Rattle.px_record.specs.Body.{header_bytes, edge_bytes, edges_bytes, body_of, body_len, value_len_of, edge_count_of, vertex_of, is_vertex_body, edge_at, vertex_in, AreBytes, AreEdges, IsVertex}
+use Rattle.px_record.specs.Body.{header_bytes, edge_bytes, edges_bytes, body_of, body_len, value_len_of, edge_count_of, vertex_of, is_vertex_body, edge_at, edges_in, vertex_in, AreBytes, AreEdges, IsVertex}
 use Rattle.px_record.specs.Held.{HeldVertex, IsRoomOf, IsWithin}
 use Rattle.px_record.specs.Headers.{vertex_at, IsHeld, IsHeaderOf}
-use Rattle.px_record.proofs.Bytes.{slice_get-edges_in, length-edges_in, length-edges_bytes, edges_bytes-push, AreEdges-push}
+use Rattle.px_record.proofs.Bytes.{slice_get-edges_in, length-edges_in, length-edges_bytes, edges_bytes-push, edges_bytes-in, AreEdges-push, AreEdges-in}
 use Rattle.px_record.proofs.Laws.{length-body_of, length-value_in, vertex_in-body, body_of-vertex_of, is_vertex_body-body_of, vertex_of-body_of, IsVertex-of_body}
 
 -- a frame that is written whole
@@ -91,6 +91,16 @@ module _ (header : Header) (room : ℕ) (frame : List ℕ) (held : IsHeld header
       slice_get-edges_in header.edges i (drop header.value (drop 9 frame)) below
       ∙ ap (λ (l : List ℕ). Some (edge_at l)) (ap (drop (12 * i)) (drop-drop header.value 9 frame) ∙ drop-drop (12 * i) (9 + header.value) frame)
 
+  pub held_edge_bytes : take (12 * header.edges) (drop (9 + header.value) frame) ≡ edges_bytes (vertex_at header frame).edges
+  unfolding body_of
+  held_edge_bytes =
+      let x = vertex_at header frame in
+      let targets : List ℕ = edges_bytes x.edges in
+      let left = drop (body_len header.value header.edges) frame in
+      ap (take (12 * header.edges)) (sym (drop-drop header.value 9 frame) ∙ ap (λ (l : List ℕ). drop header.value (drop 9 l)) held_split
+      ∙ ap (drop header.value) (append_assoc x.value targets left) ∙ drop_at x.value (targets ++ left) header.value held_value)
+      ∙ take_at targets left (12 * header.edges) (omega (arith, length-edges_bytes x.edges, held_edges))
+
 -- the fresh vertex
 pub holds_fresh : (room : ℕ) (frame out : List ℕ) → IsRoomOf room (length frame) → out ≡ header_bytes false 0 0 ++ drop 9 frame
     → Holds (record { halt = false; value = 0; edges = 0 }) room (fitted frame out) fresh
@@ -148,6 +158,36 @@ holds_cleared was room frame out held is =
     ∙ ap (λ (l : List ℕ). header_bytes was.halt (length x.value) 0 ++ l) tail in
     holds_next was (record was { edges = 0 }) room frame out held len (record x { edges = [] }) (edges_bytes x.edges ++ rest) split refl (sym value) refl tt (omega (arith, value, held.size))
 
+front_dropped : (bytes more : List ℕ) → 1 ≤ length bytes → drop 1 (bytes ++ more) ≡ drop 1 bytes ++ more
+front_dropped [] more long = absurd (omega arith)
+front_dropped (b ∷ bytes) more long = refl
+
+-- only the first byte of the value was written
+pub holds_first : (was : Header) (byte room : ℕ) (frame out : List ℕ) → IsHeld was room frame → 1 ≤ length (vertex_at was frame).value → out ≡ take 9 frame ++ byte ∷ drop 10 frame
+    → Holds was room (fitted frame out) (record (vertex_at was frame) { value = byte ∷ drop 1 (vertex_at was frame).value })
+unfolding body_of
+holds_first was byte room frame out held some is =
+    let x = vertex_at was frame in
+    let value = held_value was room frame held in
+    let edges = held_edges was room frame held in
+    let long = held_long was room frame held in
+    let next : List ℕ = byte ∷ drop 1 x.value in
+    let next_len : length next ≡ length x.value = omega (arith, length-drop 1 x.value, some) in
+    let targets : List ℕ = edges_bytes x.edges in
+    let rest = drop (body_len was.value was.edges) frame in
+    let split_is = held_split was room frame held in
+    let first : take 9 frame ≡ header_bytes x.halt (length x.value) (length x.edges) = ap (take 9) split_is in
+    let all_long : 1 ≤ length (x.value ++ targets) = omega (arith, length-append x.value targets, some) in
+    let after : drop 10 frame ≡ (drop 1 x.value ++ targets) ++ rest =
+    ap (drop 10) split_is ∙ front_dropped (x.value ++ targets) rest all_long ∙ ap (λ (l : List ℕ). l ++ rest) (front_dropped x.value targets some) in
+    let split : out ≡ body_of (record x { value = next }) ++ rest =
+    is ∙ ap (λ (l : List ℕ). l ++ byte ∷ drop 10 frame) first
+    ∙ ap (λ (l : List ℕ). header_bytes x.halt (length x.value) (length x.edges) ++ byte ∷ l) after
+    ∙ ap (λ (n : ℕ). header_bytes x.halt n (length x.edges) ++ ((next ++ targets) ++ rest)) (sym next_len) in
+    let len : length out ≡ length frame =
+    omega (arith, ap length is, length-append (take 9 frame) (byte ∷ drop 10 frame), length-take-le 9 frame (omega (arith, held.share.least)), length-drop 10 frame, held.share.least) in
+    holds_next was was room frame out held len (record x { value = next }) rest split refl (omega (arith, next_len, value)) (sym edges) held.edges (omega (arith, value, edges, next_len, held.size))
+
 -- an edge was added
 pub holds_pushed : (was : Header) (room dst weight : ℕ) (frame out : List ℕ) → IsHeld was room frame → 12 + (22 + was.value + 12 * was.edges) ≤ room
     → dst < 2 ^ 64 → weight < 2 ^ 32
@@ -171,6 +211,28 @@ holds_pushed was room dst weight frame out held free target small is len =
     ∙ ap (λ (l : List ℕ). header_bytes was.halt (length x.value) (length more) ++ (l ++ rest)) tail in
     holds_next was (record was { edges = was.edges + 1 }) room frame out held len (record x { edges = more }) rest split refl (sym value) (sym count) (AreEdges-push x.edges (dst, weight) held.edges target small) (omega (arith, value, count, free))
 
+-- these edges were put behind the value
+pub holds_edges : (was : Header) (room n : ℕ) (frame out edges : List ℕ) → IsHeld was room frame → AreBytes edges → length edges ≡ 12 * n → 22 + was.value + 12 * n ≤ room
+    → out ≡ header_bytes was.halt was.value n ++ drop 9 (take (9 + was.value) frame ++ edges ++ drop (9 + was.value + length edges) frame) → length out ≡ length frame
+    → Holds (record was { edges = n }) room (fitted frame out) (record (vertex_at was frame) { edges = edges_in n edges })
+unfolding body_of
+holds_edges was room n frame out edges held all whole size is len =
+    let x = vertex_at was frame in
+    let value = held_value was room frame held in
+    let next = edges_in n edges in
+    let count : length next ≡ n = length-edges_in n edges in
+    let rest = drop (9 + was.value + length edges) frame in
+    let head : List ℕ = header_bytes x.halt (length x.value) (length x.edges) in
+    let first : take 9 frame ≡ head = ap (take 9) (held_split was room frame held) in
+    let begin : take (9 + was.value) frame ≡ head ++ x.value = take-add 9 was.value frame ∙ ap (λ (l : List ℕ). l ++ x.value) first in
+    let bytes : edges ≡ edges_bytes next = sym (edges_bytes-in n edges (omega (arith, whole)) all ∙ take_all (12 * n) edges (omega (arith, whole))) in
+    let split : out ≡ body_of (record x { edges = next }) ++ rest =
+    is ∙ ap (λ (l : List ℕ). header_bytes was.halt was.value n ++ drop 9 (l ++ edges ++ rest)) begin
+    ∙ ap (λ (k : ℕ). header_bytes was.halt k n ++ ((x.value ++ edges) ++ rest)) (sym value)
+    ∙ ap (λ (k : ℕ). header_bytes was.halt (length x.value) k ++ ((x.value ++ edges) ++ rest)) (sym count)
+    ∙ ap (λ (l : List ℕ). header_bytes was.halt (length x.value) (length next) ++ ((x.value ++ l) ++ rest)) bytes in
+    holds_next was (record was { edges = n }) room frame out held len (record x { edges = next }) rest split refl (sym value) (sym count) (AreEdges-in n edges all) (omega (arith, value, count, size))
+
 -- so many bytes of the value were kept, and more were put behind them
 pub holds_extended : (was : Header) (room kept n : ℕ) (frame out more : List ℕ) → IsHeld was room frame → kept ≤ was.value → n ≡ kept + length more
     → 22 + n + 12 * was.edges ≤ room
@@ -193,12 +255,7 @@ holds_extended was room kept n frame out more held few n_is size front len =
     let begin : take (9 + kept) frame ≡ head ++ take kept x.value =
     take-add 9 kept frame ∙ ap (λ (l : List ℕ). l ++ take kept (drop 9 frame)) first ∙ ap (λ (l : List ℕ). head ++ l) (sym (take-take kept was.value (drop 9 frame) few)) in
     let targets : List ℕ = edges_bytes x.edges in
-    let left = drop (body_len was.value was.edges) frame in
-    let targets_len : length targets ≡ 12 * was.edges = omega (arith, length-edges_bytes x.edges, edges) in
-    let end : take (12 * was.edges) (drop (9 + was.value) frame) ≡ targets =
-    ap (take (12 * was.edges)) (sym (drop-drop was.value 9 frame) ∙ ap (λ (l : List ℕ). drop was.value (drop 9 l)) split_is
-    ∙ ap (drop was.value) (append_assoc x.value targets left) ∙ drop_at x.value (targets ++ left) was.value value)
-    ∙ take_at targets left (12 * was.edges) targets_len in
+    let end = held_edge_bytes was room frame held in
     let split : out ≡ body_of (record x { value = next }) ++ rest =
     sym (take-append-drop (body_len (kept + length more) was.edges) out) ∙ ap (λ (l : List ℕ). l ++ rest) front
     ∙ ap (λ (l : List ℕ). (header_bytes was.halt n was.edges ++ drop 9 (l ++ more ++ take (12 * was.edges) (drop (9 + was.value) frame))) ++ rest) begin

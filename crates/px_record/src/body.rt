@@ -8,7 +8,7 @@
 //
 // These are 9 + |value| + 12 * edges bytes, and bytes are a vertex only where their length is just
 // that. A stored record has 13 bytes before them, so its size is 22 + |value| + 12 * edges.
-ghost use Rattle.std.specs.Prelude.{◌≡◌, ◌≤◌, ◌+◌, ◌*◌, ◌-◌, ◌++◌, length, take, drop, IfSome, IfNone, false};
+ghost use Rattle.std.specs.Prelude.{◌≡◌, ◌≤◌, ◌+◌, ◌*◌, ◌-◌, ◌∷◌, ◌++◌, length, take, drop, IfSome, IfNone, false};
 ghost use Rattle.std.specs.List.{copy_within};
 ghost use Rattle.px_record.specs.Body.{header_bytes, edge_bytes, edge_at, body_len, is_vertex_body};
 
@@ -78,6 +78,25 @@ pub(crate) fn put_body(out: &mut [u8], body: &[u8])
     ensures { out.new ≡ body.now ++ drop (length body.now) out.old }
 {
     out[..body.len()].copy_from_slice(body);
+}
+
+/// Puts edges behind the value, and then the new header.
+pub(crate) fn put_edges(bytes: &mut [u8], header: Header, edges: &[u8])
+    requires { 9 + header.value + length edges.now ≤ length bytes.old }
+    ensures { bytes.new ≡ header_bytes header.halt header.value header.edges
+        ++ drop 9 (take (9 + header.value) bytes.old ++ edges.now ++ drop (9 + header.value + length edges.now) bytes.old) }
+{
+    let at = HEADER + header.value as usize;
+    bytes[at..at + edges.len()].copy_from_slice(edges);
+    header.put(bytes);
+}
+
+/// Puts a byte in the place of the first of the value.
+pub(crate) fn put_first(bytes: &mut [u8], byte: u8)
+    requires { 10 ≤ length bytes.old }
+    ensures { bytes.new ≡ take 9 bytes.old ++ byte ∷ drop 10 bytes.old }
+{
+    bytes[HEADER] = byte;
 }
 
 /// The edge that begins at `at`.

@@ -45,6 +45,21 @@ fn edges_stand_in_order(rt: HostRuntime) -> Result<(), Fail> {
 }
 
 #[test]
+fn edges_are_taken_over(rt: HostRuntime) -> Result<(), Fail> {
+    let from = two_edges(Frame::new(rt.alloc(), 256)?);
+    let mut to = VertexBuf::over(Frame::new(rt.alloc(), 256)?, 112);
+    assert!(rt; to.load(1, &EXAMPLE));
+    assert_eq!(rt; to.set_value(b"a"), Ok(()));
+    to.set_halt(true);
+    let edges = from.edge_bytes();
+    if edges.len() % 12 == 0 {
+        assert_eq!(rt; to.set_edges(edges), Ok(()));
+    }
+    assert_eq!(rt; to.body(), from.body());
+    Ok(())
+}
+
+#[test]
 fn reads_the_example(rt: HostRuntime) -> Result<(), Fail> {
     let mut vertex = VertexBuf::over(Frame::new(rt.alloc(), 256)?, 112);
     assert!(rt; vertex.load(1, &EXAMPLE));
@@ -64,11 +79,14 @@ fn value_moves_the_edges(rt: HostRuntime) -> Result<(), Fail> {
     assert!(rt; vertex.load(1, &EXAMPLE));
     assert_eq!(rt; vertex.set_value(b"abc"), Ok(()));
     assert_eq!(rt; vertex.append_value(b"de"), Ok(()));
+    if !vertex.value().is_empty() {
+        vertex.set_first(b'A');
+    }
     vertex.set_halt(true);
-    let want = b"\x01\0\0\0\x05\0\0\0\x01abcde\0\0\0\0\0\0\0\x02\0\0\0\x01";
+    let want = b"\x01\0\0\0\x05\0\0\0\x01Abcde\0\0\0\0\0\0\0\x02\0\0\0\x01";
     assert_eq!(rt; vertex.body(), want.as_slice());
     vertex.clear_edges();
-    assert_eq!(rt; vertex.body(), b"\x01\0\0\0\x05\0\0\0\0abcde".as_slice());
+    assert_eq!(rt; vertex.body(), b"\x01\0\0\0\x05\0\0\0\0Abcde".as_slice());
     Ok(())
 }
 

@@ -1,10 +1,12 @@
 // One vertex, in the bytes that it is stored as, at the front of a frame.
-ghost use Rattle.std.specs.Prelude.{◌≡◌, ◌↔◌, ◌+◌, ◌*◌, ◌≤◌, ◌<◌, [], ◌∷◌, ◌++◌, length, take, IsTrue, IsFalse, OnOk, OnErr, IsErr, slice_get, Some};
+ghost use Rattle.std.specs.Prelude.{◌≡◌, ◌↔◌, ◌+◌, ◌*◌, ◌/◌, ◌%◌, ◌≤◌, ◌<◌, [], ◌∷◌, ◌++◌, length, take, drop, IsTrue, IsFalse, OnOk, OnErr, IsErr, slice_get, Some};
 ghost use Rattle.px_meaning.specs.Graph.{fresh, vertex_size, size_of};
-ghost use Rattle.px_record.specs.Body.{body_of, vertex_of, is_vertex_body};
+ghost use Rattle.px_record.specs.Body.{body_of, vertex_of, is_vertex_body, edges_bytes, edges_in};
 ghost use Rattle.px_record.specs.Held.{IsRoomOf, IsWithin};
 
-use crate::body::{EDGE, FRESH, HEADER, Header, add_edge, edge_at, put_body, put_value};
+use crate::body::{
+    EDGE, FRESH, HEADER, Header, add_edge, edge_at, put_body, put_edges, put_first, put_value,
+};
 use px_frames::{Frame, Wide};
 use std::marker::Model;
 
@@ -138,6 +140,15 @@ impl VertexBuf {
         edge_at(self.frame.bytes(), at)
     }
 
+    /// The edges in the bytes that they are stored as.
+    pub fn edge_bytes(&self) -> &[u8]
+        ensures bytes { result.now ≡ edges_bytes self.now.vertex.edges }
+        ensures within { IsWithin self.now }
+    {
+        let at = HEADER + self.header.value as usize;
+        &self.frame.bytes()[at..self.header.body_len()]
+    }
+
     pub fn set_halt(&mut self, halt: bool)
         ensures { self.new ≡ record self.old { vertex = record self.old.vertex { halt = halt } } }
     {
@@ -195,6 +206,14 @@ impl VertexBuf {
         self.write_value(0, value)
     }
 
+    /// Sets the first byte of the value.
+    pub fn set_first(&mut self, byte: u8)
+        requires { 1 ≤ length self.old.vertex.value }
+        ensures { self.new ≡ record self.old { vertex = record self.old.vertex { value = byte ∷ drop 1 self.old.vertex.value } } }
+    {
+        put_first(self.frame.bytes_mut(), byte);
+    }
+
     /// Puts more bytes behind the value.
     pub fn append_value(&mut self, more: &[u8]) -> Result<(), Wide>
         ensures wide { IsErr result ↔ (self.old.room < vertex_size self.old.vertex + length more.now) }
@@ -202,6 +221,25 @@ impl VertexBuf {
         ensures err { OnErr result (self.new ≡ self.old) }
     {
         self.write_value(self.header.value, more)
+    }
+
+    /// Takes the edges that stand in these bytes in place of its own.
+    pub fn set_edges(&mut self, edges: &[u8]) -> Result<(), Wide>
+        requires { length edges.now % 12 ≡ 0 }
+        ensures wide { IsErr result ↔ (self.old.room < size_of (length self.old.vertex.value) (length edges.now / 12)) }
+        ensures ok { OnOk result (self.new ≡ record self.old { vertex = record self.old.vertex { edges = edges_in (length edges.now / 12) edges.now } }) }
+        ensures err { OnErr result (self.new ≡ self.old) }
+    {
+        if edges.len() > self.free() + EDGE * self.header.edges as usize {
+            return Err(Wide);
+        }
+        let header = Header {
+            edges: (edges.len() / EDGE) as u32,
+            ..self.header
+        };
+        put_edges(self.frame.bytes_mut(), header, edges);
+        self.header = header;
+        Ok(())
     }
 
     /// Adds an edge behind the others.
