@@ -61,6 +61,7 @@ impl BTree {
     }
 
     /// Closes the leaf that is open.
+    #[inline]
     pub(crate) fn close(&mut self, desk: &mut Desk)
         requires { IsPageLen desk.old.cache.len }
         ensures same { self.new ≡ record self.old { leaf = None } }

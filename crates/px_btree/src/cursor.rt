@@ -19,6 +19,7 @@ impl ClosedTree {
     ghost use Rattle.px_store.specs.declared.shared.Desk.{Desk};
 
     // The next tuple of the cursor's leaf.
+    #[inline]
     fn take_next(&mut self, page: &[u8]) -> Option<Tuple>
         requires { IsPageLen (length page.now) }
         ensures some { IfSome result (λ t. left_here self.old.here page.now ≡ entry_of t page.now ∷ left_here self.new.here page.now) }
@@ -37,6 +38,8 @@ impl ClosedTree {
     }
 
     // Goes on to the next leaf.
+    #[cold]
+    #[inline(never)]
     fn turn(&mut self, page: &[u8])
         requires page { IsPageLen (length page.now) }
         requires togo { 0 < self.old.togo }
@@ -48,6 +51,7 @@ impl ClosedTree {
     }
 
     // Takes the next vertex of the cursor's leaf, or else goes on to the next leaf.
+    #[inline]
     fn give(&mut self, page: &[u8], into: &mut VertexBuf) -> bool
         requires page { IsPageLen (length page.now) }
         requires room { into.old.room ≡ room_of (length page.now) }
@@ -71,6 +75,7 @@ impl ClosedTree {
     }
 
     // The page of the cursor's leaf.
+    #[inline]
     fn place(&self) -> u64
         ensures { result ≡ self.now.at }
     {
@@ -78,6 +83,7 @@ impl ClosedTree {
     }
 
     // Loads the cursor's leaf and takes the next vertex of it, or else goes on to the next leaf.
+    #[inline]
     fn look<D: Disk>(
         &mut self,
         disk: &mut D,
@@ -117,6 +123,7 @@ impl ClosedTree {
     }
 
     /// Gives the next vertex, or answers false at the end.
+    #[inline]
     pub(crate) fn next<D: Disk>(
         &mut self,
         disk: &mut D,

@@ -54,6 +54,7 @@ pub(crate) fn take_apart(page: &[u8], apart: Apart, vid: Vid, into: &mut VertexB
 }
 
 /// Makes it the vertex that a tuple spells, or the fresh one where that is none within room.
+#[inline]
 pub(crate) fn load_at(page: &[u8], t: Tuple, vid: Vid, into: &mut VertexBuf) -> bool
     requires within { t.at + t.len ≤ length page.now }
     requires room { into.old.room ≡ room_of (length page.now) }

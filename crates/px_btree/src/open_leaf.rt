@@ -91,6 +91,8 @@ fn frame_of(cache: &Cache, file: u32, leaf: OpenLeaf) -> Option<u32>
 }
 
 /// Closes an open leaf.
+#[cold]
+#[inline(never)]
 pub(crate) fn close_leaf(cache: &mut Cache, file: u32, leaf: OpenLeaf)
     requires { IsPageLen cache.old.len }
     ensures closed { IsLeafIn file leaf cache.old → IsAlone file leaf cache.old → cache.new ≡ shut leaf cache.old }

@@ -15,6 +15,7 @@ use px_store::Desk;
 
 impl ClosedTree {
     // Its file on the graph disk.
+    #[inline]
     pub(crate) fn file(&self) -> u32
         ensures file { result ≡ 8 * self.now.part }
         ensures least { 1 ≤ self.now.depth }

@@ -97,6 +97,7 @@ impl Store for BTree {
         Ok(())
     }
 
+    #[inline]
     fn next<D: Disk>(
         &mut self,
         disk: &mut D,

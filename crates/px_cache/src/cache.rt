@@ -38,6 +38,7 @@ impl Model for Cache {
 }
 
 // The hint of a page.
+#[inline]
 fn hint_of(file: u32, page: u64) -> usize
     ensures { result < 64 }
 {
@@ -79,6 +80,7 @@ impl Cache {
     }
 
     /// The bytes of a frame.
+    #[inline]
     pub fn frame(&self, i: u32) -> &[u8]
         requires { i < length self.now.notes }
         ensures bytes { result.now ≡ slice_index_or self.now.frames i [] }
@@ -232,6 +234,7 @@ impl Cache {
     }
 
     // The frame that holds a page, which is then that of the last load.
+    #[inline]
     fn held(&mut self, file: u32, page: u64) -> Option<u32>
         ensures some { IfSome result (λ i. Holds self.old.notes i file page) }
         ensures none { IfNone result ((i : ℕ) → Holds self.old.notes i file page → ⊥) }
@@ -251,6 +254,7 @@ impl Cache {
     }
 
     /// The frame that holds a page, if one does. The one of its hint is asked first, and nothing is read.
+    #[inline]
     pub fn seek(&self, file: u32, page: u64) -> Option<u32>
         ensures some { IfSome result (λ i. Holds self.now.notes i file page) }
         ensures none { IfNone result ((i : ℕ) → Holds self.now.notes i file page → ⊥) }
@@ -265,6 +269,7 @@ impl Cache {
 
     /// Holds a page, and answers the number of its frame. A held page is not read again, and no other page goes for it.
     /// Else one page that is not pinned goes; where two frames are not pinned, it is not that of the call before.
+    #[inline]
     pub fn load<D: Disk>(&mut self, disk: &mut D, file: u32, page: u64) -> Result<u32, Stop>
         requires len { self.old.len ≡ (D.shown disk.old).page_len }
         requires free { HasFree self.old.notes }
@@ -284,6 +289,8 @@ impl Cache {
     }
 
     // Holds a page that no frame holds.
+    #[cold]
+    #[inline(never)]
     fn bring<D: Disk>(&mut self, disk: &mut D, file: u32, page: u64) -> Result<u32, Stop>
         requires len { self.old.len ≡ (D.shown disk.old).page_len }
         requires free { HasFree self.old.notes }

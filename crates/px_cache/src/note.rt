@@ -33,6 +33,7 @@ fn pack(note: Note) -> (u64, u64)
     (note.page, word)
 }
 
+#[inline]
 fn unpack(pair: (u64, u64)) -> Note
     ensures { result ≡ unpacked pair }
 {
@@ -46,6 +47,7 @@ fn unpack(pair: (u64, u64)) -> Note
 }
 
 /// What is known of the frame at a place.
+#[inline]
 pub(crate) fn note_at(share: &Share, i: u32) -> Note
     requires at { i < length share.now.frames }
     requires full { IsFull share.now }
@@ -70,6 +72,7 @@ pub(crate) fn set_note_at(share: &mut Share, i: u32, note: Note)
 }
 
 /// One more than the number of a frame.
+#[inline]
 pub(crate) fn after(share: &Share, i: u32) -> u32
     requires { i < length share.now.frames }
     ensures { result ≡ i + 1 }
@@ -80,6 +83,7 @@ pub(crate) fn after(share: &Share, i: u32) -> u32
 }
 
 /// Whether the note says that its frame holds this page.
+#[inline]
 pub(crate) fn is_page(note: Note, file: u32, page: u64) -> bool
     ensures { IsTrue result ↔ SaysPage (Some note) file page }
 {
@@ -87,6 +91,7 @@ pub(crate) fn is_page(note: Note, file: u32, page: u64) -> bool
 }
 
 /// Whether there is a frame of this number, and it holds the page.
+#[inline]
 pub(crate) fn is_held(share: &Share, i: u32, file: u32, page: u64) -> bool
     requires { IsFull share.now }
     ensures at { IsTrue result → i < length share.now.frames }
@@ -96,6 +101,8 @@ pub(crate) fn is_held(share: &Share, i: u32, file: u32, page: u64) -> bool
 }
 
 /// The frame that holds a page.
+#[cold]
+#[inline(never)]
 pub(crate) fn find(share: &Share, file: u32, page: u64) -> Option<u32>
     requires { IsFull share.now }
     ensures some { IfSome result (λ i. Holds (notes_of share.now) i file page) }
