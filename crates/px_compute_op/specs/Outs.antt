@@ -1,8 +1,9 @@
 -- An outbox that borrows a group, requests and a disk.
-use Rattle.std.specs.Prelude.{◌≡◌, ◌≤◌, ◌<◌, ◌⊎◌, ℕ, ◌^◌, Bool, true, false, IsTrue, [], ◌++◌, fold, length, nat_lt, None}
+use Rattle.std.specs.Prelude.{◌≡◌, ◌≤◌, ◌<◌, ◌⊎◌, ℕ, ◌^◌, ◌+◌, Bool, true, false, IsTrue, [], ◌++◌, fold, length, nat_lt, None}
 use Rattle.std.specs.List.{list_any}
 use Rattle.px_core.specs.Same.{Apart}
 use Rattle.px_core.specs.Shown.{Shown, Touches}
+use Rattle.px_frames.specs.Buffer.{BufView, SameRoom}
 use Rattle.px_meaning.specs.Graph.{fresh, pair_size}
 use Rattle.px_meaning.specs.Merge.{Pairs}
 use Rattle.px_meaning.specs.Program.{ProgramMeaning, Keeps}
@@ -21,13 +22,16 @@ pub record Start : Type 0 where
   pub group : GroupMade
   pub requests : RequestsView
   pub disk : Shown
+  pub spare : BufView
 
 -- what is true of an outbox whatever was sent: it borrows what it was made with, its disk changed in its own files alone, and the group takes pairs while the outbox does
-pub record IsOut (start : Start) (program : ProgramMeaning) (group : GroupMade) (grouping : Bool) (requests : RequestsView) (disk : Shown) (room : ℕ) (made : Part) (open_still : Bool) : Type 0 where
+pub record IsOut (start : Start) (program : ProgramMeaning) (group : GroupMade) (grouping : Bool) (requests : RequestsView) (disk : Shown) (spare : BufView) (room : ℕ) (made : Part) (open_still : Bool) : Type 0 where
   pub program_is : program ≡ start.program
   pub group_is : group ≡ start.group
   pub group_open : IsTrue open_still → IsTrue grouping
   pub requests_are : SameRequests start.requests requests
+  pub spare_is : SameRoom start.spare spare
+  pub spare_fits : 13 + start.spare.limit ≡ room_in start.group
   pub touches : Touches (IsOutFile start.group) start.disk disk
   pub apart : Apart (IsOwn start.group) IsRequestFile
   pub group_len : start.group.frame_len ≡ start.disk.page_len
@@ -68,4 +72,5 @@ idle_start = record {
   group = record { size = 0; frames = 0; frame_len = 0; capacity = 0; first = 0; second = 0 };
   requests = record { frame_len = 0; size = 0; frames = 0; writers = record { first = 0; frame_len = 0; writers = []; pages = [] } };
   disk = record { tells = false; files = λ f. None; page_len = 0; faults = 0; reads = 0; writes = 0 };
+  spare = record { bytes = []; limit = 0; frame_len = 0 };
 }

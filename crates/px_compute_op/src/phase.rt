@@ -150,6 +150,7 @@ fn each_row<P: Program, J: Join, G: Group, St: Store, GD: Disk, SD: Disk, K: Mea
             &mut bench.group,
             requests,
             scratch,
+            &mut bench.spare,
             &mut part,
         )?;
         bench

@@ -1,13 +1,14 @@
 // One row of a compute phase.
-ghost use Rattle.std.specs.Prelude.{◌≡◌, ◌⊎◌, ◌<◌, ◌≤◌, ◌^◌, OnOk, IfErr, IsTrue, IsFalse, not};
+ghost use Rattle.std.specs.Prelude.{◌≡◌, ◌⊎◌, ◌<◌, ◌≤◌, ◌+◌, ◌^◌, [], OnOk, IfErr, IsTrue, IsFalse, not};
 ghost use Rattle.px_core.specs.Shown.{Clean};
 ghost use Rattle.px_core.specs.Same.{Apart};
+ghost use Rattle.px_frames.specs.Buffer.{SameRoom};
 ghost use Rattle.px_meaning.specs.Graph.{fresh, vertex_size};
 ghost use Rattle.px_meaning.specs.Merge.{IsValidMessage};
 ghost use Rattle.px_meaning.specs.Program.{Row as MeantRow};
 ghost use Rattle.px_record.specs.Held.{SameRecord};
 ghost use Rattle.px_program.specs.Groups.{IsOwn, StopsGrouping, room_in};
-ghost use Rattle.px_program.specs.Posted.{Posted, with_out, StaysOpen, IsCause, IsPartOf, IsBeyond, made_for};
+ghost use Rattle.px_program.specs.Posted.{Posted, with_out, gathered, StaysOpen, IsCause, IsPartOf, IsBeyond, made_for};
 ghost use Rattle.px_store.specs.Joins.{IsRow};
 ghost use Rattle.px_connectors.specs.Asking.{IsRequestFile, SameRequests, Asked};
 ghost use Rattle.px_program.specs.Calls.{moment_of as moment_at};
@@ -51,6 +52,7 @@ fn compute_row<P: Program, O: Outbox>(
     requires verdict { (O.made_for out.old).verdict ≡ (P.meaning program.now).verdict }
     requires vid { vertex.old.vid ≡ row.now.vid }
     requires fresh { IsFalse row.now.has_vertex → vertex.old.vertex ≡ fresh }
+    requires pieces { O.pieces out.old ≡ gathered (O.made_for out.old).room [] }
 
     ensures vertex { (r : MeantRow) → IsRow row.now vertex.old message.now.bytes r → IsValidMessage (P.meaning program.now).message r.message
         → OnOk result (vertex.new ≡ record vertex.old { vertex = ((P.meaning program.now).out_of (moment_of gs.now) r).vertex }) }
@@ -86,17 +88,20 @@ pub fn compute_in<P: Program, G: Group, SD: Disk, K: Meant>(
     group: &mut G,
     requests: &mut Requests,
     scratch: &mut SD,
+    spare: &mut Buf,
     part: &mut Part,
 ) -> Result<(), Stop>
     requires program { P.meaning program.now ≡ K.start.program }
     requires group_is { G.made group.old ≡ K.start.group }
     requires requests_are { requests.old ≡ K.start.requests }
     requires disk { SD.shown scratch.old ≡ K.start.disk }
+    requires spare { spare.old ≡ K.start.spare }
     requires open { IsTrue (G.is_open group.old) }
     requires apart { Apart (IsOwn K.start.group) IsRequestFile }
     requires group_len { K.start.group.frame_len ≡ K.start.disk.page_len }
     requires requests_len { K.start.requests.frame_len ≡ K.start.disk.page_len }
     requires room { vertex.old.room ≡ room_in K.start.group }
+    requires limit { 13 + spare.old.limit ≡ room_in K.start.group }
     requires sends { part.old.sends ≤ 2 ^ 40 }
     requires asked { part.old.requests ≤ 2 ^ 40 }
     requires small { part.old.contributed < 2 ^ 64 }
@@ -121,13 +126,17 @@ pub fn compute_in<P: Program, G: Group, SD: Disk, K: Meant>(
     ensures group_stays { G.made group.new ≡ G.made group.old }
     ensures requests_stay { SameRequests requests.old requests.new }
     ensures record_stays { SameRecord vertex.old vertex.new }
+    ensures spare_stays { SameRoom spare.old spare.new }
 {
     let room = vertex.room();
+    spare.clear();
     let mut out = Outs::<P, G, SD, K> {
         program,
         group,
         requests,
         disk: scratch,
+        spare,
+        long: false,
         room,
         made: *part,
         unspent: true,

@@ -3,14 +3,14 @@ use Rattle.std.specs.Prelude.{◌≡◌, ℕ, ◌-◌, ◌^◌, true, [], min, r
 use Rattle.std.proofs.Math.Nat.{min_comm, min-le_left, min-le_right, le-min, min-eq_right, le_antisymm, le_trans, le_of_suc-le-suc}
 use Rattle.px_meaning.specs.Graph.{vertex_or_fresh}
 use Rattle.px_meaning.specs.Program.{ProgramMeaning, ProgramLaws, Keeps}
-use Rattle.px_program.specs.NoVerdict.{no_verdict_rule, no_verdict_laws}
+use Rattle.px_verdict.specs.Verdict.{verdict_rule, verdict_laws}
 
 abbrev pub least : ProgramMeaning
 least = record {
   out_of = λ at row. record { vertex = record (vertex_or_fresh row.vertex) { halt = true }; sends = []; requests = []; contributions = [] };
   settle_of = λ v x verdict. Keeps;
-  message = no_verdict_rule;
-  verdict = no_verdict_rule;
+  message = verdict_rule;
+  verdict = verdict_rule;
   unit = 2 ^ 64 - 1;
   join = min;
   value_text = λ x. [];
@@ -23,8 +23,8 @@ min_associates a b c = le_antisymm
 
 pub least_laws : ProgramLaws least
 least_laws = record {
-  messages = no_verdict_laws;
-  verdicts = no_verdict_laws;
+  messages = verdict_laws;
+  verdicts = verdict_laws;
   sends_valid = λ at row h. refl;
   requests_valid = λ at row h. refl;
   join_unit = λ a lt. min-eq_right (le_of_suc-le-suc lt);

@@ -4,30 +4,31 @@ ghost use Rattle.px_global_state.specs.Least.{least, least_laws};
 use crate::{Gs, Part, join_parts, no_part};
 use px_core::{Failed, Sink, Stop};
 use px_frames::Wide;
-use px_program::{At, NoVerdict, Outbox, Program, Settled};
+use px_program::{At, Outbox, Program, Settled};
 use px_record::VertexBuf;
+use px_verdict::PlainVerdict;
 
 // A program whose aggregate is the least of what is contributed, and the greatest number where nothing is.
 #[derive(Clone, Copy, Debug, PartialEq, Eq)]
 struct Least {
-    nothing: NoVerdict,
+    verdict: PlainVerdict,
 }
 
 impl Program for Least {
-    type Message = NoVerdict;
+    type Message = PlainVerdict;
 
-    type Verdict = NoVerdict;
+    type Verdict = PlainVerdict;
 
     ghost meaning = { λ p. least };
 
     ghost laws = { λ p. least_laws };
 
-    fn message(&self) -> &NoVerdict {
-        &self.nothing
+    fn message(&self) -> &PlainVerdict {
+        &self.verdict
     }
 
-    fn verdict(&self) -> &NoVerdict {
-        &self.nothing
+    fn verdict(&self) -> &PlainVerdict {
+        &self.verdict
     }
 
     fn compute<O: Outbox>(
@@ -82,7 +83,9 @@ fn a_state_has_halted_where_none_is_live_and_nothing_in_flight(rt: HostRuntime) 
 
 #[test]
 fn a_part_joined_with_none_is_the_part(rt: HostRuntime) {
-    let program = Least { nothing: NoVerdict };
+    let program = Least {
+        verdict: PlainVerdict,
+    };
     let none = no_part(&program);
     assert_eq!(rt;
         (none.sends, none.requests, none.contributed),

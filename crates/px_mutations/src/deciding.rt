@@ -7,9 +7,10 @@ ghost use Rattle.px_mutations.specs.Deciding.{deciding, deciding_laws};
 
 use px_core::{Failed, Sink, Stop};
 use px_frames::Wide;
-use px_program::{At, NoVerdict, Outbox, Program, Settled};
+use px_program::{At, Outbox, Program, Settled};
 use px_programs::Lesser;
 use px_record::VertexBuf;
+use px_verdict::PlainVerdict;
 
 // The first byte of a verdict, or 0 where it has none.
 fn kind_of(verdict: &[u8]) -> u8
@@ -32,12 +33,12 @@ fn set_value(v: &mut VertexBuf, value: &[u8]) -> Result<Settled, Wide>
 
 #[derive(Clone, Copy, Debug, PartialEq, Eq)]
 pub struct Deciding {
-    pub nothing: NoVerdict,
+    pub plain: PlainVerdict,
     pub lesser: Lesser,
 }
 
 impl Program for Deciding {
-    type Message = NoVerdict;
+    type Message = PlainVerdict;
 
     type Verdict = Lesser;
 
@@ -45,8 +46,8 @@ impl Program for Deciding {
 
     ghost laws = { λ p. deciding_laws };
 
-    fn message(&self) -> &NoVerdict {
-        &self.nothing
+    fn message(&self) -> &PlainVerdict {
+        &self.plain
     }
 
     fn verdict(&self) -> &Lesser {

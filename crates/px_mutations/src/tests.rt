@@ -15,12 +15,13 @@ use px_core::{Disk, Stop};
 use px_frames::{Bank, Buf, Frame};
 use px_memdisk::MemDisk;
 use px_pages::tags;
-use px_program::{Group, NoVerdict};
+use px_program::Group;
 use px_programs::Lesser;
 use px_record::VertexBuf;
 use px_sort_group::SortGroup;
 use px_store::{Desk, Store};
 use px_stream::{Head, Reader, Writer};
+use px_verdict::PlainVerdict;
 use std::alloc::{AllocError, Global};
 use std::test::Fail;
 
@@ -220,7 +221,7 @@ fn settle<G: Group, St: Store, GD: Disk, SD: Disk>(
         vid_pages: 0,
     };
     let program = Deciding {
-        nothing: NoVerdict,
+        plain: PlainVerdict,
         lesser: Lesser,
     };
     apply(

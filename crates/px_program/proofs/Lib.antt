@@ -1,3 +1,4 @@
+pub mod Gathering
 pub mod NumberRules
 pub mod Phases
 pub mod Printing

@@ -1,41 +1,40 @@
--- Steps of a loop that prints edges.
+-- Steps of a loop that prints a list.
 use Rattle.std.proofs.Common.{◌≡◌, ℕ, ◌+◌, List, [], ◌∷◌, ◌++◌, Some, take, drop, refl, sym, ◌∙◌, ap, subst, append_assoc}
 use Rattle.std.specs.Prelude.{flat_map, slice_get}
 use Rattle.std.proofs.lemmas.Grind.{flat_map-append}
 use Rattle.std.proofs.lemmas.List.{append-nil, take_more, flat_map_more, take-append-drop, drop_more}
 use Rattle.std.proofs.lemmas.Option.{slice_get_within, get_or_from_slice_get}
-use Rattle.px_meaning.specs.OutputText.{edge_text}
 use Rattle.px_program.proofs.Phases.{begins_later}
 
--- the texts of one edge more
-pub edges_more : (before : List ℕ) (es : List (ℕ × ℕ)) (i : ℕ) (e : ℕ × ℕ) → slice_get es i ≡ Some e → (before ++ flat_map edge_text (take i es)) ++ edge_text e ≡ before ++ flat_map edge_text (take (i + 1) es)
-edges_more before es i e h =
-    flat_map_more edge_text before (take i es) e
-    ∙ ap (λ (x : ℕ × ℕ). before ++ flat_map edge_text (take i es ++ x ∷ [])) (sym (get_or_from_slice_get es i e e h))
-    ∙ ap (λ (l : List (ℕ × ℕ)). before ++ flat_map edge_text l) (sym (take_more es i e (slice_get_within es i e h)))
+module _ {A : Type 0} (f : A → List ℕ) (es : List A) (i : ℕ) (e : A) (h : slice_get es i ≡ Some e) where
+  -- the texts of one thing more
+  pub texts_more : (before : List ℕ) → (before ++ flat_map f (take i es)) ++ f e ≡ before ++ flat_map f (take (i + 1) es)
+  texts_more before =
+      flat_map_more f before (take i es) e
+      ∙ ap (λ (x : A). before ++ flat_map f (take i es ++ x ∷ [])) (sym (get_or_from_slice_get es i e e h))
+      ∙ ap (λ (l : List A). before ++ flat_map f l) (sym (take_more es i e (slice_get_within es i e h)))
 
-edges_split : (es : List (ℕ × ℕ)) (i : ℕ) (e : ℕ × ℕ) → slice_get es i ≡ Some e → es ≡ take i es ++ e ∷ drop (i + 1) es
-edges_split es i e h =
-    sym (take-append-drop i es) ∙ ap (λ (l : List (ℕ × ℕ)). take i es ++ l) (drop_more es i e (slice_get_within es i e h) ∙ ap (λ (x : ℕ × ℕ). x ∷ drop (i + 1) es) (get_or_from_slice_get es i e e h))
+  split_at : es ≡ take i es ++ e ∷ drop (i + 1) es
+  split_at =
+      sym (take-append-drop i es) ∙ ap (λ (l : List A). take i es ++ l) (drop_more es i e (slice_get_within es i e h) ∙ ap (λ (x : A). x ∷ drop (i + 1) es) (get_or_from_slice_get es i e e h))
 
--- a part of one edge's text, behind those before it, is a part of all
-pub edges_part : (now : List ℕ → Type 0) (before : List ℕ) (es : List (ℕ × ℕ)) (i : ℕ) (e : ℕ × ℕ) → slice_get es i ≡ Some e
-    → (n : ℕ) × now ((before ++ flat_map edge_text (take i es)) ++ take n (edge_text e)) → (k : ℕ) × now (before ++ take k (flat_map edge_text es))
-edges_part now before es i e h part =
-    let front = flat_map edge_text (take i es) in
-    let rest = flat_map edge_text (drop (i + 1) es) in
-    let later = begins_later before front (edge_text e) rest ((before ++ front) ++ take part.0 (edge_text e)) (part.0, refl) in
-    let all : flat_map edge_text es ≡ front ++ (edge_text e ++ rest) = ap (flat_map edge_text) (edges_split es i e h) ∙ flat_map-append edge_text (take i es) (e ∷ drop (i + 1) es) in
-    (later.0, subst (λ (l : List ℕ). now (before ++ take later.0 l)) (sym all) (subst now later.1 part.1))
+  -- a part of one thing's text, behind those before it, is a part of all
+  pub texts_part : (now : List ℕ → Type 0) (before : List ℕ) → (n : ℕ) × now ((before ++ flat_map f (take i es)) ++ take n (f e)) → (k : ℕ) × now (before ++ take k (flat_map f es))
+  texts_part now before part =
+      let front = flat_map f (take i es) in
+      let rest = flat_map f (drop (i + 1) es) in
+      let later = begins_later before front (f e) rest ((before ++ front) ++ take part.0 (f e)) (part.0, refl) in
+      let all : flat_map f es ≡ front ++ (f e ++ rest) = ap (flat_map f) split_at ∙ flat_map-append f (take i es) (e ∷ drop (i + 1) es) in
+      (later.0, subst (λ (l : List ℕ). now (before ++ take later.0 l)) (sym all) (subst now later.1 part.1))
 
 -- a part of a text's front is a part of the text
-in_front : (now : List ℕ → Type 0) (h x y : List ℕ) → (k : ℕ) × now (h ++ take k x) → (j : ℕ) × now (h ++ take j (x ++ y))
+pub in_front : (now : List ℕ → Type 0) (h x y : List ℕ) → (k : ℕ) × now (h ++ take k x) → (j : ℕ) × now (h ++ take j (x ++ y))
 in_front now h x y part =
     let later = begins_later h [] x y (h ++ take part.0 x) (part.0, ap (λ (l : List ℕ). l ++ take part.0 x) (sym (append-nil h))) in
     (later.0, subst now later.1 part.1)
 
 -- and so is a part of what comes behind the front
-behind : (now : List ℕ → Type 0) (h x y : List ℕ) → (k : ℕ) × now ((h ++ x) ++ take k y) → (j : ℕ) × now (h ++ take j (x ++ y))
+pub behind : (now : List ℕ → Type 0) (h x y : List ℕ) → (k : ℕ) × now ((h ++ x) ++ take k y) → (j : ℕ) × now (h ++ take j (x ++ y))
 behind now h x y part =
     let later = begins_later h x y [] ((h ++ x) ++ take part.0 y) (part.0, refl) in
     (later.0, subst (λ (l : List ℕ). now (h ++ take later.0 l)) (ap (λ (l : List ℕ). x ++ l) (append-nil y)) (subst now later.1 part.1))

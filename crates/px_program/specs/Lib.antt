@@ -1,5 +1,4 @@
 pub mod Calls
-pub mod NoVerdict
 pub mod Numbers
 pub mod Groups
 pub mod Regrouping

@@ -1,5 +1,5 @@
 -- What an outbox took in a step.
-use Rattle.std.specs.Prelude.{◌≡◌, ◌≢◌, ◌⊎◌, ℕ, Bool, ◌||◌, IsTrue, nat_lt, List, [], ◌∷◌, ◌++◌, take}
+use Rattle.std.specs.Prelude.{◌≡◌, ◌≢◌, ◌⊎◌, ℕ, Bool, ◌||◌, IsTrue, nat_lt, if◌then◌else◌, List, [], ◌∷◌, ◌++◌, take, Option, Some, None}
 use Rattle.std.specs.List.{list_any}
 use Rattle.px_core.specs.Counts.{Rose}
 use Rattle.px_core.specs.declared.stop.Stop.{Stop}
@@ -44,6 +44,19 @@ requested vid verdict p = record p { requests = p.requests ++ (vid, verdict) ∷
 
 abbrev pub contributed : ℕ → Posted → Posted
 contributed n p = record p { contributions = p.contributions ++ n ∷ [] }
+
+-- the pieces of a payload, which are these bytes, or none where their pair would be above room
+unfoldable pub gathered : ℕ → List ℕ → Option (List ℕ)
+gathered room bytes = if nat_lt room (pair_size bytes) then None else Some bytes
+
+-- with these bytes behind them
+abbrev pub with_piece : ℕ → List ℕ → Option (List ℕ) → Option (List ℕ)
+with_piece room more (Some bytes) = gathered room (bytes ++ more)
+with_piece room more None = None
+
+-- the pieces of which a buffer holds these bytes, where they are not too long for it
+abbrev pub pieces_in : Bool → List ℕ → Option (List ℕ)
+pieces_in long bytes = if long then None else Some bytes
 
 -- with all that a vertex answers
 abbrev pub with_out : Out → Posted → Posted

@@ -4,14 +4,12 @@
 mod group;
 pub mod laws;
 mod merge;
-mod no_verdict;
 mod outbox;
 mod print;
 mod program;
 
 pub use group::Group;
 pub use merge::Merge;
-pub use no_verdict::NoVerdict;
 pub use outbox::Outbox;
 pub use print::{
     MOST_OF_LINE, line_with, print_decimal, print_edge, print_edges, print_summary, print_vertex,

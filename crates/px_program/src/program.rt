@@ -1,11 +1,11 @@
 // Programs: what a vertex computes in a superstep.
-ghost use Rattle.std.specs.Prelude.{◌≡◌, ◌↔◌, ℕ, List, ◌++◌, take, false, ◌<◌, ◌≤◌, OnOk, OnErr, IfOk, IfErr, IsTrue, IsErr, option_copied, Some, None, if◌then◌else◌};
+ghost use Rattle.std.specs.Prelude.{◌≡◌, ◌↔◌, ℕ, List, [], ◌++◌, take, false, ◌<◌, ◌≤◌, OnOk, OnErr, IfOk, IfErr, IsTrue, IsErr, option_copied, Some, None, if◌then◌else◌};
 ghost use Rattle.px_core.specs.Counts.{Rose};
 ghost use Rattle.px_meaning.specs.Graph.{fresh, vertex_size};
 ghost use Rattle.px_meaning.specs.Merge.{IsValidMessage};
 ghost use Rattle.px_meaning.specs.Program.{ProgramMeaning, ProgramLaws};
 ghost use Rattle.px_record.specs.Held.{SameRecord};
-ghost use Rattle.px_program.specs.Posted.{Posted, with_out, StaysOpen, StopsComputing};
+ghost use Rattle.px_program.specs.Posted.{Posted, with_out, gathered, StaysOpen, StopsComputing};
 ghost use Rattle.px_program.specs.Calls.{answer, Applies, is_too_wide};
 
 use crate::{Merge, Outbox};
@@ -60,6 +60,7 @@ pub trait Program: Drop {
         requires message { (O.made_for out.old).message ≡ (meaning self.now).message }
         requires verdict { (O.made_for out.old).verdict ≡ (meaning self.now).verdict }
         requires fresh { IsTrue at.now.fresh → v.old.vertex ≡ fresh }
+        requires pieces { O.pieces out.old ≡ gathered (O.made_for out.old).room [] }
 
         ensures vertex { IsValidMessage (meaning self.now).message (option_copied msg.entry)
             → OnOk result (v.new ≡ record v.old { vertex = (answer (meaning self.now) at.now v.old (option_copied msg.entry)).vertex }) }
@@ -67,6 +68,7 @@ pub trait Program: Drop {
             → OnOk result ((p : Posted) → O.took out.old p → O.took out.new (with_out (answer (meaning self.now) at.now v.old (option_copied msg.entry)) p)) }
         ensures open { OnOk result (StaysOpen (O.is_open out.new) (O.faults out.old) (O.faults out.new)) }
         ensures fits { OnOk result (vertex_size v.new.vertex ≤ v.new.room) }
+        ensures pieces { OnOk result (O.pieces out.new ≡ gathered (O.made_for out.old).room []) }
 
         ensures err { IfErr result (StopsComputing (IsValidMessage (meaning self.now).message (option_copied msg.entry))
             (v.old.room < vertex_size (answer (meaning self.now) at.now v.old (option_copied msg.entry)).vertex)

@@ -18,7 +18,7 @@ use Rattle.px_compute_op.proofs.phase.each_row.Given as goal
 -- what a row's outbox keeps to: the group, the requests and the disk as they are before the row, and the requests before the phase
 abbrev pub ghosts-compute_in : goal.ghosts-compute_in
 ghosts-compute_in g a = record {
-  start = record { program = g.K.Meant.start.program; group = g.G.Group.made a.group.now; requests = a.requests.now; disk = g.SD.Disk.shown a.scratch.now };
+  start = record { program = g.K.Meant.start.program; group = g.G.Group.made a.group.now; requests = a.requests.now; disk = g.SD.Disk.shown a.scratch.now; spare = a.spare.now };
   asked_before = g.K.Meant.asked_before;
 }
 

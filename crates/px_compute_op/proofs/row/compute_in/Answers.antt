@@ -1,4 +1,4 @@
-use Rattle.std.proofs.Common.{rules, ◌≡◌, ◌<◌, ◌⊎◌, ℕ, sym, subst, inl, inr}
+use Rattle.std.proofs.Common.{rules, ◌≡◌, ◌<◌, ◌⊎◌, ℕ, false, refl, sym, subst, inl, inr, arith}
 use Rattle.std.proofs.lemmas.Result.{err_from_is_err_and}
 use Rattle.px_meaning.specs.Graph.{vertex_size}
 use Rattle.px_meaning.specs.Merge.{IsValidMessage}
@@ -7,6 +7,7 @@ use Rattle.px_program.specs.Posted.{Posted, IsPartOf, IsBeyond, made_for}
 use Rattle.px_connectors.specs.Asking.{Asked}
 use Rattle.px_global_state.specs.States.{moment_of}
 use Rattle.px_compute_op.specs.Outs.{HasTaken}
+use Rattle.px_program.proofs.Gathering.{no_pieces}
 use Rattle.px_compute_op.proofs.row.compute_in.Goals as goal
 
 pub returns-in_err-compute_row-clause-err : goal.returns-in_err-compute_row-clause-err
@@ -29,3 +30,7 @@ returns-in_err-compute_row-clause-err g c =
       cause = search rules;
       touches = search rules;
     })
+
+pub compute_row-requires-clause-pieces : goal.compute_row-requires-clause-pieces
+compute_row-requires-clause-pieces g c =
+    no_pieces c.room-room.result c.args.spare.now.limit false c.clear.new.self.bytes (omega (arith, c.requires.limit, c.requires.room, c.room-room.ensures.value)) refl c.clear.ensures.bytes
