@@ -4,9 +4,10 @@ use Rattle.std.proofs.lemmas.Bool.{false≢true}
 use Rattle.px_meaning.specs.Graph.{Vertex}
 use Rattle.px_meaning.specs.Merge.{Pairs, MergeRule, AllValid}
 use Rattle.px_meaning.specs.Program.{Out}
-use Rattle.px_program.specs.NoVerdict.{no_verdict_rule}
 use Rattle.px_program.specs.Numbers.{num, number_in}
+use Rattle.px_verdict.specs.Verdict.{verdict_rule}
 use Rattle.px_programs.specs.Along.{sent_by}
+use Rattle.px_programs.specs.Table.{IsValidOut}
 
 -- nothing but the vertex
 abbrev pub rests : Vertex → Out
@@ -15,6 +16,14 @@ rests x = record { vertex = x; sends = []; requests = []; contributions = [] }
 -- one contribution, and sends
 abbrev pub posts : Vertex → ℕ → Pairs → Out
 posts x n sends = record { vertex = x; sends = sends; requests = []; contributions = n ∷ [] }
+
+-- sends alone
+abbrev pub spreads : Vertex → Pairs → Out
+spreads x sends = record { vertex = x; sends = sends; requests = []; contributions = [] }
+
+-- requests alone
+abbrev pub asks : Vertex → Pairs → Out
+asks x requests = record { vertex = x; sends = []; requests = requests; contributions = [] }
 
 abbrev pub halted : Vertex → Vertex
 halted x = record x { halt = true }
@@ -28,13 +37,12 @@ abbrev pub decimal_or_dash : Option ℕ → List ℕ
 decimal_or_dash None = codes "-"
 decimal_or_dash (Some n) = decimal n
 
+-- of a value that is never set
+abbrev pub dash_text : Vertex → List ℕ
+dash_text x = codes "-"
+
 abbrev pub number_text : Vertex → List ℕ
 number_text x = decimal_or_dash (number_in x.value)
-
--- all that is sent and requested is valid
-pub record IsValidOut (rule : MergeRule) (o : Out) : Type 0 where
-  pub sends : AllValid rule o.sends
-  pub requests : AllValid no_verdict_rule o.requests
 
 and_true : (a b : Bool) → IsTrue a → IsTrue b → IsTrue (a && b)
 and_true true b p q = q
@@ -50,6 +58,12 @@ rests_valid rule x = record { sends = refl; requests = refl }
 
 pub posts_valid : (rule : MergeRule) (x : Vertex) (n : ℕ) (sends : Pairs) → AllValid rule sends → IsValidOut rule (posts x n sends)
 posts_valid rule x n sends all = record { sends = all; requests = refl }
+
+pub spreads_valid : (rule : MergeRule) (x : Vertex) (sends : Pairs) → AllValid rule sends → IsValidOut rule (spreads x sends)
+spreads_valid rule x sends all = record { sends = all; requests = refl }
+
+pub asks_valid : (rule : MergeRule) (x : Vertex) (requests : Pairs) → AllValid verdict_rule requests → IsValidOut rule (asks x requests)
+asks_valid rule x requests all = record { sends = refl; requests = all }
 
 -- what holds of both sides of a choice holds of the choice
 pub if_has : {A : Type 0} (P : A → Type 0) (b : Bool) (x y : A) → P x → P y → P (if b then x else y)

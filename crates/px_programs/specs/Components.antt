@@ -1,14 +1,12 @@
 -- components: the least vid that leads to a vertex. On a graph whose edges go both ways, that names its connected component. The value is a number.
 use Rattle.std.specs.Prelude.{ℕ, true, if◌then◌else◌, nat_lt, ◌==◌, List, length, Option, Some, None, option_map, min}
 use Rattle.px_meaning.specs.Graph.{Vertex, vertex_or_fresh}
-use Rattle.px_meaning.specs.Program.{ProgramMeaning, ProgramLaws, Moment, Row, Out, Keeps}
-use Rattle.px_program.specs.NoVerdict.{no_verdict_rule, no_verdict_laws}
+use Rattle.px_meaning.specs.Program.{ProgramMeaning, ProgramLaws, Moment, Row, Out}
 use Rattle.px_program.specs.Numbers.{num, number, number_in, lesser_rule}
-use Rattle.px_program.specs.Saturating.{saturating_sum}
 use Rattle.px_program.proofs.NumberRules.{num_is_valid, lesser_laws}
-use Rattle.px_program.proofs.SaturatingSums.{saturating_sum_unit, saturating_sum_commutes, saturating_sum_associates}
 use Rattle.px_programs.specs.Along.{along}
-use Rattle.px_programs.specs.Answers.{rests, posts, halted, valued, number_text, IsValidOut, sent_by_valid, rests_valid, posts_valid}
+use Rattle.px_programs.specs.Answers.{rests, posts, halted, valued, number_text, sent_by_valid, rests_valid, posts_valid}
+use Rattle.px_programs.specs.Table.{Table, plain, plain_laws, IsValidOut}
 
 -- the label, where it is below the known one
 abbrev pub improved : ℕ → Option ℕ → Option ℕ
@@ -37,16 +35,11 @@ components_out at row =
     let x = vertex_or_fresh row.vertex in
     labelled (new_label at.superstep row.vid x.value (option_map number row.message)) x
 
+abbrev pub components_table : Table
+components_table = record { out_of = components_out; message = lesser_rule; value_text = number_text }
+
 abbrev pub components : ProgramMeaning
-components = record {
-  out_of = components_out;
-  settle_of = λ v x verdict. Keeps;
-  message = lesser_rule;
-  verdict = no_verdict_rule;
-  unit = 0;
-  join = saturating_sum;
-  value_text = number_text;
-}
+components = plain components_table
 
 labelled_valid : (label : Option ℕ) (x : Vertex) → IsValidOut lesser_rule (labelled label x)
 labelled_valid None x = rests_valid lesser_rule (halted x)
@@ -58,12 +51,4 @@ out_valid at row =
     labelled_valid (new_label at.superstep row.vid x.value (option_map number row.message)) x
 
 pub components_laws : ProgramLaws components
-components_laws = record {
-  messages = lesser_laws;
-  verdicts = no_verdict_laws;
-  sends_valid = λ at row h. (out_valid at row).sends;
-  requests_valid = λ at row h. (out_valid at row).requests;
-  join_unit = saturating_sum_unit;
-  join_commutes = saturating_sum_commutes;
-  join_associates = saturating_sum_associates;
-}
+components_laws = plain_laws components_table lesser_laws (λ at row h. out_valid at row)

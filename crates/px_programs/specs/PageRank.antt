@@ -1,14 +1,13 @@
 -- pagerank: how often a walk that follows random edges is at a vertex, after so many rounds. The value is a number, a part of 10^12. Divisions take the floor, and what a vertex without edges would send is lost.
 use Rattle.std.specs.Prelude.{ℕ, ◌*◌, ◌/◌, true, false, if◌then◌else◌, nat_lt, ◌==◌, [], length, Option, Some, None, option_map, unwrap_or, max, refl}
 use Rattle.px_meaning.specs.Graph.{Vertex, vertex_or_fresh}
-use Rattle.px_meaning.specs.Program.{ProgramMeaning, ProgramLaws, Moment, Row, Out, Keeps}
-use Rattle.px_program.specs.NoVerdict.{no_verdict_rule, no_verdict_laws}
+use Rattle.px_meaning.specs.Program.{ProgramMeaning, ProgramLaws, Moment, Row, Out}
 use Rattle.px_program.specs.Numbers.{num, number, sum_rule}
 use Rattle.px_program.specs.Saturating.{saturating_sum}
 use Rattle.px_program.proofs.NumberRules.{num_is_valid, sum_laws}
-use Rattle.px_program.proofs.SaturatingSums.{saturating_sum_unit, saturating_sum_commutes, saturating_sum_associates}
 use Rattle.px_programs.specs.Along.{along}
-use Rattle.px_programs.specs.Answers.{rests, posts, halted, valued, number_text, IsValidOut, sent_by_valid, rests_valid, posts_valid, if_has}
+use Rattle.px_programs.specs.Answers.{rests, posts, halted, valued, number_text, sent_by_valid, rests_valid, posts_valid, if_has}
+use Rattle.px_programs.specs.Table.{Table, plain, plain_laws, IsValidOut}
 
 -- the whole, which all vertices share, and 15 percent of it
 abbrev pub scale : ℕ
@@ -42,16 +41,11 @@ abbrev pub pagerank_out : ℕ → Moment → Row → Out
 pagerank_out rounds at row =
     ranked rounds at.superstep (new_rank rounds at.superstep at.count (option_map number row.message)) (vertex_or_fresh row.vertex)
 
+abbrev pub pagerank_table : ℕ → Table
+pagerank_table rounds = record { out_of = pagerank_out rounds; message = sum_rule; value_text = number_text }
+
 abbrev pub pagerank : ℕ → ProgramMeaning
-pagerank rounds = record {
-  out_of = pagerank_out rounds;
-  settle_of = λ v x verdict. Keeps;
-  message = sum_rule;
-  verdict = no_verdict_rule;
-  unit = 0;
-  join = saturating_sum;
-  value_text = number_text;
-}
+pagerank rounds = plain (pagerank_table rounds)
 
 shares_valid : (rank : ℕ) (x : Vertex) → IsValidOut sum_rule (shares rank x)
 shares_valid rank x =
@@ -68,12 +62,4 @@ out_valid rounds at row =
     ranked_valid rounds at.superstep (new_rank rounds at.superstep at.count (option_map number row.message)) (vertex_or_fresh row.vertex)
 
 pub pagerank_laws : (rounds : ℕ) → ProgramLaws (pagerank rounds)
-pagerank_laws rounds = record {
-  messages = sum_laws;
-  verdicts = no_verdict_laws;
-  sends_valid = λ at row h. (out_valid rounds at row).sends;
-  requests_valid = λ at row h. (out_valid rounds at row).requests;
-  join_unit = saturating_sum_unit;
-  join_commutes = saturating_sum_commutes;
-  join_associates = saturating_sum_associates;
-}
+pagerank_laws rounds = plain_laws (pagerank_table rounds) sum_laws (λ at row h. out_valid rounds at row)

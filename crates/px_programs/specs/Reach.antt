@@ -1,13 +1,11 @@
 -- reach: which vertices are reached from one. Its value is one byte, 1 where the vertex is reached and 0 where it is not.
 use Rattle.std.specs.Prelude.{ℕ, Bool, true, false, not, ◌&&◌, if◌then◌else◌, ◌==◌, List, [], ◌∷◌, is_some, codes, refl}
 use Rattle.px_meaning.specs.Graph.{Vertex, vertex_or_fresh}
-use Rattle.px_meaning.specs.Program.{ProgramMeaning, ProgramLaws, Moment, Row, Out, Keeps}
-use Rattle.px_program.specs.NoVerdict.{no_verdict_rule, no_verdict_laws}
-use Rattle.px_program.specs.Saturating.{saturating_sum}
-use Rattle.px_program.proofs.SaturatingSums.{saturating_sum_unit, saturating_sum_commutes, saturating_sum_associates}
+use Rattle.px_meaning.specs.Program.{ProgramMeaning, ProgramLaws, Moment, Row, Out}
 use Rattle.px_programs.specs.Along.{along}
-use Rattle.px_programs.specs.Answers.{rests, posts, halted, IsValidOut, sent_by_valid, rests_valid, posts_valid, if_has}
+use Rattle.px_programs.specs.Answers.{rests, posts, halted, sent_by_valid, rests_valid, posts_valid, if_has}
 use Rattle.px_programs.specs.Empty.{empty_rule, empty_laws}
+use Rattle.px_programs.specs.Table.{Table, plain, plain_laws, IsValidOut}
 
 -- the value is the one byte 1
 abbrev pub is_reached : List ℕ → Bool
@@ -40,16 +38,11 @@ reach_out from at row =
 abbrev pub reach_text : Vertex → List ℕ
 reach_text x = if is_reached x.value then codes "1" else if is_unreached x.value then codes "0" else codes "-"
 
+abbrev pub reach_table : ℕ → Table
+reach_table from = record { out_of = reach_out from; message = empty_rule; value_text = reach_text }
+
 abbrev pub reach : ℕ → ProgramMeaning
-reach from = record {
-  out_of = reach_out from;
-  settle_of = λ v x verdict. Keeps;
-  message = empty_rule;
-  verdict = no_verdict_rule;
-  unit = 0;
-  join = saturating_sum;
-  value_text = reach_text;
-}
+reach from = plain (reach_table from)
 
 reaches_valid : (x : Vertex) → IsValidOut empty_rule (reaches x)
 reaches_valid x = posts_valid empty_rule (marked 1 x) 1 _ (sent_by_valid empty_rule (λ e. []) (λ e. refl) x.edges)
@@ -63,12 +56,4 @@ out_valid from at row =
     (if_has valid _ _ _ (reaches_valid x) (rests_valid empty_rule (halted x)))
 
 pub reach_laws : (from : ℕ) → ProgramLaws (reach from)
-reach_laws from = record {
-  messages = empty_laws;
-  verdicts = no_verdict_laws;
-  sends_valid = λ at row h. (out_valid from at row).sends;
-  requests_valid = λ at row h. (out_valid from at row).requests;
-  join_unit = saturating_sum_unit;
-  join_commutes = saturating_sum_commutes;
-  join_associates = saturating_sum_associates;
-}
+reach_laws from = plain_laws (reach_table from) empty_laws (λ at row h. out_valid from at row)

@@ -1,14 +1,13 @@
 -- sssp: the least sum of weights on a path from one vertex. The value is a number, of which the greatest stands for no path.
 use Rattle.std.specs.Prelude.{ℕ, ◌-◌, ◌^◌, true, if◌then◌else◌, nat_lt, ◌==◌, List, length, Option, Some, None, option_map, codes, decimal}
 use Rattle.px_meaning.specs.Graph.{Vertex, vertex_or_fresh}
-use Rattle.px_meaning.specs.Program.{ProgramMeaning, ProgramLaws, Moment, Row, Out, Keeps}
-use Rattle.px_program.specs.NoVerdict.{no_verdict_rule, no_verdict_laws}
+use Rattle.px_meaning.specs.Program.{ProgramMeaning, ProgramLaws, Moment, Row, Out}
 use Rattle.px_program.specs.Numbers.{number, number_in, lesser_rule}
 use Rattle.px_program.specs.Saturating.{saturating_sum}
 use Rattle.px_program.proofs.NumberRules.{num_is_valid, lesser_laws}
-use Rattle.px_program.proofs.SaturatingSums.{saturating_sum_unit, saturating_sum_commutes, saturating_sum_associates}
 use Rattle.px_programs.specs.Along.{over, distances}
-use Rattle.px_programs.specs.Answers.{rests, posts, halted, valued, IsValidOut, sent_by_valid, rests_valid, posts_valid, if_has}
+use Rattle.px_programs.specs.Answers.{rests, posts, halted, valued, sent_by_valid, rests_valid, posts_valid, if_has}
+use Rattle.px_programs.specs.Table.{Table, plain, plain_laws, IsValidOut}
 
 -- no path is known
 abbrev pub unreached : ℕ
@@ -47,16 +46,11 @@ abbrev pub distance_text : Option ℕ → List ℕ
 distance_text None = codes "-"
 distance_text (Some d) = if d == unreached then codes "inf" else decimal d
 
+abbrev pub sssp_table : ℕ → Table
+sssp_table from = record { out_of = sssp_out from; message = lesser_rule; value_text = λ x. distance_text (number_in x.value) }
+
 abbrev pub sssp : ℕ → ProgramMeaning
-sssp from = record {
-  out_of = sssp_out from;
-  settle_of = λ v x verdict. Keeps;
-  message = lesser_rule;
-  verdict = no_verdict_rule;
-  unit = 0;
-  join = saturating_sum;
-  value_text = λ x. distance_text (number_in x.value);
-}
+sssp from = plain (sssp_table from)
 
 finds_valid : (d : ℕ) (x : Vertex) → IsValidOut lesser_rule (finds d x)
 finds_valid d x = posts_valid lesser_rule (valued true d x) 1 _ (sent_by_valid lesser_rule (over d) (λ e. num_is_valid (saturating_sum d e.1)) x.edges)
@@ -81,12 +75,4 @@ out_valid from at row =
     if_has valid _ _ _ (if_has valid (row.vid == from) _ _ (finds_valid 0 x) (waits_valid x)) (hears_valid (option_map number row.message) x)
 
 pub sssp_laws : (from : ℕ) → ProgramLaws (sssp from)
-sssp_laws from = record {
-  messages = lesser_laws;
-  verdicts = no_verdict_laws;
-  sends_valid = λ at row h. (out_valid from at row).sends;
-  requests_valid = λ at row h. (out_valid from at row).requests;
-  join_unit = saturating_sum_unit;
-  join_commutes = saturating_sum_commutes;
-  join_associates = saturating_sum_associates;
-}
+sssp_laws from = plain_laws (sssp_table from) lesser_laws (λ at row h. out_valid from at row)

@@ -1,31 +1,28 @@
 // components: the least vid that leads to a vertex.
-ghost use Rattle.std.specs.Prelude.{◌≡◌, option_copied, option_map};
+ghost use Rattle.std.specs.Prelude.{◌≡◌, option_copied, option_map, refl};
 ghost use Rattle.px_meaning.specs.Merge.{IsValidMessage};
 ghost use Rattle.px_program.specs.Numbers.{number, lesser_rule};
-ghost use Rattle.px_programs.specs.Components.{components, components_laws, heard_label, new_label};
+ghost use Rattle.px_programs.specs.Components.{components_table, components_laws, heard_label, new_label};
 
 use crate::along::post_along;
 use crate::lesser::Lesser;
 use crate::numbers::{bytes_of, heard, number_of, print_number};
+use crate::plain::{Plain, PlainProgram};
 use px_core::{Failed, Sink, Stop, Vid};
-use px_frames::Wide;
-use px_program::{At, NoVerdict, Outbox, Program, Settled};
+use px_program::{At, Outbox};
 use px_record::VertexBuf;
 
 /// Labels each vertex with the least vid that leads to it. Where each edge has one back, that names
 /// its connected component. The aggregate counts the vertices whose label fell in the last superstep.
+pub type Components = PlainProgram<ComponentsTable>;
+
+/// The table of `Components`.
 #[derive(Clone, Copy, Debug, PartialEq, Eq)]
-pub struct Components {
-    message: Lesser,
-    verdict: NoVerdict,
-}
+pub struct ComponentsTable;
 
 impl Components {
     pub fn new() -> Components {
-        Components {
-            message: Lesser,
-            verdict: NoVerdict,
-        }
+        PlainProgram::of(ComponentsTable, Lesser)
     }
 }
 
@@ -56,22 +53,14 @@ fn new_label(superstep: u64, vid: Vid, value: &[u8], msg: Option<&[u8]>) -> Opti
     }
 }
 
-impl Program for Components {
+impl Plain for ComponentsTable {
     type Message = Lesser;
 
-    type Verdict = NoVerdict;
+    ghost table = { λ t. components_table };
 
-    ghost meaning = { λ p. components };
+    ghost one_rule = { λ t m. refl };
 
-    ghost laws = { λ p. components_laws };
-
-    fn message(&self) -> &Lesser {
-        &self.message
-    }
-
-    fn verdict(&self) -> &NoVerdict {
-        &self.verdict
-    }
+    ghost laws = { λ t. components_laws };
 
     fn compute<O: Outbox>(
         &self,
@@ -90,23 +79,6 @@ impl Program for Components {
             return Err(Stop::Beyond);
         }
         post_along(v, 1, &payload, out)
-    }
-
-    fn settle(
-        &self,
-        _existing: bool,
-        _v: &mut VertexBuf,
-        _verdict: &[u8],
-    ) -> Result<Settled, Wide> {
-        Ok(Settled::Keep)
-    }
-
-    fn unit(&self) -> u64 {
-        0
-    }
-
-    fn join(&self, a: u64, b: u64) -> u64 {
-        a.saturating_add(b)
     }
 
     fn print_value<W: Sink>(&self, v: &VertexBuf, sink: &mut W) -> Result<(), Failed> {

@@ -1,15 +1,15 @@
 // pagerank: how often a walk that follows edges at random is at a vertex.
-ghost use Rattle.std.specs.Prelude.{◌≡◌, ◌/◌, if◌then◌else◌, nat_lt, option_copied, option_map, Some, None};
+ghost use Rattle.std.specs.Prelude.{◌≡◌, ◌/◌, if◌then◌else◌, nat_lt, option_copied, option_map, Some, None, refl};
 ghost use Rattle.px_meaning.specs.Merge.{IsValidMessage};
 ghost use Rattle.px_program.specs.Numbers.{number, sum_rule};
-ghost use Rattle.px_programs.specs.PageRank.{pagerank, pagerank_laws, rank_of, new_rank};
+ghost use Rattle.px_programs.specs.PageRank.{pagerank_table, pagerank_laws, rank_of, new_rank};
 
 use crate::along::post_along;
 use crate::numbers::{bytes_of, heard, number_of, print_number};
+use crate::plain::{Plain, PlainProgram};
 use crate::sum::Sum;
 use px_core::{Failed, Sink, Stop};
-use px_frames::Wide;
-use px_program::{At, NoVerdict, Outbox, Program, Settled};
+use px_program::{At, Outbox};
 use px_record::VertexBuf;
 
 // What all vertices share, and 15 percent of it.
@@ -20,24 +20,23 @@ const RESTART: u64 = 150_000_000_000;
 /// Ranks vertices by how often a walk is at them that follows a random edge 85 times in 100, and
 /// else goes on from any vertex. The ranks are parts of 10^12 after so many rounds, and the
 /// aggregate is the sum of the last ones. What a vertex without edges would send is lost.
+pub type PageRank = PlainProgram<PageRankTable>;
+
+/// The table of `PageRank`.
 #[derive(Clone, Copy, Debug, PartialEq, Eq)]
-pub struct PageRank {
+pub struct PageRankTable {
     pub rounds: u32,
-    message: Sum,
-    verdict: NoVerdict,
 }
 
 impl PageRank {
     pub fn new(rounds: u32) -> PageRank
-        ensures { result.rounds ≡ rounds }
+        ensures { result.table.rounds ≡ rounds }
     {
-        PageRank {
-            rounds,
-            message: Sum,
-            verdict: NoVerdict,
-        }
+        PlainProgram::of(PageRankTable { rounds }, Sum)
     }
+}
 
+impl PageRankTable {
     // The new rank of a vertex, until the last round is over.
     fn new_rank(&self, at: &At, msg: Option<&[u8]>) -> Option<u64>
         ensures { IsValidMessage sum_rule (option_copied msg.entry)
@@ -79,22 +78,14 @@ fn share_of(rank: u64, edges: u64) -> u64
     if edges == 0 { 0 } else { rank / edges }
 }
 
-impl Program for PageRank {
+impl Plain for PageRankTable {
     type Message = Sum;
 
-    type Verdict = NoVerdict;
+    ghost table = { λ t. pagerank_table t.rounds };
 
-    ghost meaning = { λ p. pagerank p.rounds };
+    ghost one_rule = { λ t m. refl };
 
-    ghost laws = { λ p. pagerank_laws p.rounds };
-
-    fn message(&self) -> &Sum {
-        &self.message
-    }
-
-    fn verdict(&self) -> &NoVerdict {
-        &self.verdict
-    }
+    ghost laws = { λ t. pagerank_laws t.rounds };
 
     fn compute<O: Outbox>(
         &self,
@@ -118,23 +109,6 @@ impl Program for PageRank {
             return Ok(());
         };
         post_along(v, rank, &bytes_of(share), out)
-    }
-
-    fn settle(
-        &self,
-        _existing: bool,
-        _v: &mut VertexBuf,
-        _verdict: &[u8],
-    ) -> Result<Settled, Wide> {
-        Ok(Settled::Keep)
-    }
-
-    fn unit(&self) -> u64 {
-        0
-    }
-
-    fn join(&self, a: u64, b: u64) -> u64 {
-        a.saturating_add(b)
     }
 
     fn print_value<W: Sink>(&self, v: &VertexBuf, sink: &mut W) -> Result<(), Failed> {

@@ -1,38 +1,35 @@
 // reach: which vertices are reached from one.
-ghost use Rattle.std.specs.Prelude.{◌≡◌, ◌==◌, ◌&&◌, not, if◌then◌else◌, is_some, option_copied};
-ghost use Rattle.px_record.specs.Held.{IsWithin};
-ghost use Rattle.px_programs.specs.Reach.{reach, reach_laws, is_reached};
+ghost use Rattle.std.specs.Prelude.{◌≡◌, ◌==◌, ◌&&◌, not, if◌then◌else◌, is_some, option_copied, refl};
+ghost use Rattle.px_programs.specs.Reach.{reach_table, reach_laws, is_reached};
 
 use crate::along::post_along;
 use crate::empty::Empty;
+use crate::plain::{Plain, PlainProgram};
 use px_core::{Failed, Sink, Stop, write_all};
-use px_frames::Wide;
-use px_program::{At, NoVerdict, Outbox, Program, Settled};
+use px_program::{At, Outbox};
 use px_record::VertexBuf;
 
 /// Marks the vertices that are reached from one by 1, the others by 0. The aggregate counts those of the last superstep.
+pub type Reach = PlainProgram<ReachTable>;
+
+/// The table of `Reach`.
 #[derive(Clone, Copy, Debug, PartialEq, Eq)]
-pub struct Reach {
+pub struct ReachTable {
     pub from: u64,
-    message: Empty,
-    verdict: NoVerdict,
 }
 
 impl Reach {
     pub fn new(from: u64) -> Reach
-        ensures { result.from ≡ from }
+        ensures { result.table.from ≡ from }
     {
-        Reach {
-            from,
-            message: Empty,
-            verdict: NoVerdict,
-        }
+        PlainProgram::of(ReachTable { from }, Empty)
     }
+}
 
+impl ReachTable {
     // Whether a vertex is reached in this superstep, and was not before.
     fn reaches(&self, at: &At, v: &VertexBuf, msg: Option<&[u8]>) -> bool
         ensures reaches { result ≡ (if at.now.superstep == 0 then v.now.vid == self.now.from else is_some (option_copied msg.entry) && not (is_reached v.now.vertex.value)) }
-        ensures within { IsWithin v.now }
     {
         let was_reached = has_one(v.value());
         if at.superstep == 0 {
@@ -53,22 +50,14 @@ fn has_one(value: &[u8]) -> bool
     }
 }
 
-impl Program for Reach {
+impl Plain for ReachTable {
     type Message = Empty;
 
-    type Verdict = NoVerdict;
+    ghost table = { λ t. reach_table t.from };
 
-    ghost meaning = { λ p. reach p.from };
+    ghost one_rule = { λ t m. refl };
 
-    ghost laws = { λ p. reach_laws p.from };
-
-    fn message(&self) -> &Empty {
-        &self.message
-    }
-
-    fn verdict(&self) -> &NoVerdict {
-        &self.verdict
-    }
+    ghost laws = { λ t. reach_laws t.from };
 
     fn compute<O: Outbox>(
         &self,
@@ -89,23 +78,6 @@ impl Program for Reach {
             return Err(Stop::Beyond);
         }
         Ok(())
-    }
-
-    fn settle(
-        &self,
-        _existing: bool,
-        _v: &mut VertexBuf,
-        _verdict: &[u8],
-    ) -> Result<Settled, Wide> {
-        Ok(Settled::Keep)
-    }
-
-    fn unit(&self) -> u64 {
-        0
-    }
-
-    fn join(&self, a: u64, b: u64) -> u64 {
-        a.saturating_add(b)
     }
 
     fn print_value<W: Sink>(&self, v: &VertexBuf, sink: &mut W) -> Result<(), Failed> {

@@ -1,19 +1,19 @@
 // sssp: the least sum of weights on a path from one vertex.
-ghost use Rattle.std.specs.Prelude.{◌≡◌, IsTrue, option_copied};
+ghost use Rattle.std.specs.Prelude.{◌≡◌, IsTrue, option_copied, refl};
 ghost use Rattle.px_meaning.specs.Graph.{Vertex, fresh};
 ghost use Rattle.px_meaning.specs.Merge.{IsValidMessage};
 ghost use Rattle.px_program.specs.Calls.{answer};
 ghost use Rattle.px_program.specs.Numbers.{lesser_rule};
-ghost use Rattle.px_record.specs.Held.{IsWithin};
-ghost use Rattle.px_programs.specs.Sssp.{sssp, sssp_laws, distance_of, hears};
+ghost use Rattle.px_programs.specs.Sssp.{sssp, sssp_table, sssp_laws, distance_of, hears};
 ghost use Rattle.px_programs.specs.Steps.{taken};
 
 use crate::along::send_distances;
 use crate::lesser::Lesser;
 use crate::numbers::{bytes_of, heard, number_of};
+use crate::plain::{Plain, PlainProgram};
 use px_core::{Failed, Sink, Stop, write_all};
 use px_frames::Wide;
-use px_program::{At, NoVerdict, Outbox, Program, Settled, print_decimal};
+use px_program::{At, Outbox, print_decimal};
 use px_record::VertexBuf;
 
 // The value of a vertex to which no path is known.
@@ -21,30 +21,28 @@ const UNREACHED: u64 = u64::MAX;
 
 /// Finds the least sum of weights on a path from one vertex to each, printed as `inf` where there is
 /// no path. The aggregate counts the vertices whose distance fell in the last superstep.
+pub type Sssp = PlainProgram<SsspTable>;
+
+/// The table of `Sssp`.
 #[derive(Clone, Copy, Debug, PartialEq, Eq)]
-pub struct Sssp {
+pub struct SsspTable {
     pub from: u64,
-    message: Lesser,
-    verdict: NoVerdict,
 }
 
 impl Sssp {
     pub fn new(from: u64) -> Sssp
-        ensures { result.from ≡ from }
+        ensures { result.table.from ≡ from }
     {
-        Sssp {
-            from,
-            message: Lesser,
-            verdict: NoVerdict,
-        }
+        PlainProgram::of(SsspTable { from }, Lesser)
     }
+}
 
+impl SsspTable {
     // What a vertex does.
     fn step(&self, at: &At, v: &VertexBuf, msg: Option<&[u8]>) -> Step
         requires { IsTrue at.now.fresh → v.now.vertex ≡ fresh }
         ensures step { IsValidMessage lesser_rule (option_copied msg.entry)
             → answer (sssp self.now.from) at.now v.now (option_copied msg.entry) ≡ taken result v.now.vertex }
-        ensures within { IsWithin v.now }
     {
         let value = v.value();
         if at.superstep == 0 {
@@ -94,22 +92,14 @@ fn compare(d: u64, value: &[u8]) -> Step
     }
 }
 
-impl Program for Sssp {
+impl Plain for SsspTable {
     type Message = Lesser;
 
-    type Verdict = NoVerdict;
+    ghost table = { λ t. sssp_table t.from };
 
-    ghost meaning = { λ p. sssp p.from };
+    ghost one_rule = { λ t m. refl };
 
-    ghost laws = { λ p. sssp_laws p.from };
-
-    fn message(&self) -> &Lesser {
-        &self.message
-    }
-
-    fn verdict(&self) -> &NoVerdict {
-        &self.verdict
-    }
+    ghost laws = { λ t. sssp_laws t.from };
 
     fn compute<O: Outbox>(
         &self,
@@ -134,23 +124,6 @@ impl Program for Sssp {
             },
             Step::Rest => Ok(()),
         }
-    }
-
-    fn settle(
-        &self,
-        _existing: bool,
-        _v: &mut VertexBuf,
-        _verdict: &[u8],
-    ) -> Result<Settled, Wide> {
-        Ok(Settled::Keep)
-    }
-
-    fn unit(&self) -> u64 {
-        0
-    }
-
-    fn join(&self, a: u64, b: u64) -> u64 {
-        a.saturating_add(b)
     }
 
     fn print_value<W: Sink>(&self, v: &VertexBuf, sink: &mut W) -> Result<(), Failed> {

@@ -12,5 +12,6 @@ invariant-loop-i g l =
       sent : (p : Posted) → took l.fn.out p → took l.out (with_sends (distances l.d (take l.i l.v.vertex.edges)) p);
       unspent : IsTrue (g.O.Outbox.is_open l.out);
       faults : g.O.Outbox.faults l.out ≡ g.O.Outbox.faults l.fn.out;
+      pieces : g.O.Outbox.pieces l.out ≡ g.O.Outbox.pieces l.fn.out;
       stays : g.O.Outbox.made_for l.out ≡ g.O.Outbox.made_for l.fn.out;
     }

@@ -1,0 +1,24 @@
+use Rattle.std.proofs.Common.{rules, ◌≡◌, subst, take, refl}
+use Rattle.std.specs.Prelude.{IsTrue}
+use Rattle.std.proofs.lemmas.Result.{err_from_is_err_and}
+use Rattle.px_programs.specs.Along.{along, with_requests}
+use Rattle.px_programs.proofs.AlongSteps.{adds_requests, more_along, stops_along}
+use Rattle.px_programs.proofs.along.request_along.Goals as goal
+
+pub loop-i-preserved : goal.loop-i-preserved
+loop-i-preserved g c =
+    let valid : IsTrue ((g.O.Outbox.made_for c.loop-i.out).verdict.valid c.args.verdict.now) = rw c.loop-i.invariant.stays c.requires.valid in
+    record {
+      asked = λ p took. subst (g.O.Outbox.took c.request.new.self) (more_along with_requests adds_requests (λ e. c.args.verdict.now) c.args.v.now.vertex.edges c.loop-i.i p c.edge-dst.result _ refl c.edge-dst.ensures) (c.in_ok-request.ensures.ok valid (with_requests (along c.args.verdict.now (take c.loop-i.i c.args.v.now.vertex.edges)) p) (c.loop-i.invariant.asked p took));
+      unspent = search rules;
+      faults = search rules;
+      pieces = search rules;
+      stays = search rules;
+    }
+
+pub returns-in_err-request-clause-err : goal.returns-in_err-request-clause-err
+returns-in_err-request-clause-err g c =
+    let is = err_from_is_err_and c.from_residual.result c.from_residual.ensures.1 in
+    let stop : is.0 ≡ c.in_err-request.field-0.0 = cc in
+    let i = c.loop-i.invariant in
+    rw (is.1, stop) (stops_along with_requests adds_requests (λ e. c.args.verdict.now) _ c.loop-i.i c.edge-dst.result _ _ _ _ _ _ _ _ _ _ _ _ i.asked c.edge-dst.ensures refl i.stays i.faults (rw i.stays c.requires.valid) c.in_err-request.ensures.err)
