@@ -1,3 +1,4 @@
+pub mod Generated
 pub mod Kinds
 pub mod Passing
 pub mod Reading

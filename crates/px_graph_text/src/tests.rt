@@ -5,10 +5,12 @@ ghost use Rattle.px_meaning.specs.Graph.{vids};
 ghost use Rattle.px_meaning.specs.GraphText.{offence};
 ghost use Rattle.px_graph_text.specs.Reading.{OfRest, IsBad, SameParser, vertices_before};
 
-use crate::{Kind, Parser, TextStop};
-use px_core::{MemSource, Source};
+use crate::{GenSource, Kind, Parser, TextStop};
+use px_core::{Failed, MemSource, Source};
 use px_frames::Frame;
 use px_record::VertexBuf;
+use rand_core::utils::NextWord;
+use rand_pcg::Lcg64Xsh32;
 use std::alloc::{AllocError, Global};
 use std::test::Fail;
 
@@ -177,6 +179,80 @@ fn each_read_fails_in_turn(rt: HostRuntime) -> Result<(), Fail> {
             Ok(())
         };
         assert_eq!(rt; got, want, "call {fail}");
+    }
+    Ok(())
+}
+
+// All bytes of a source, by reads of so many at a time.
+fn bytes_of<R: Source>(
+    alloc: Global,
+    source: &mut R,
+    most: usize,
+) -> Result<Result<Vec<u8>, Failed>, AllocError>
+    requires { most ≤ 64 }
+{
+    let mut all = Vec::new(alloc);
+    let mut buffer = [0; 64];
+    'reads: for _ in 0..1000 {
+        match source.read(&mut buffer[..most]) {
+            Ok(count) => all.extend_from_slice(&buffer[..count])?,
+            Err(failed) => return Ok(Err(failed)),
+        }
+    }
+    Ok(Ok(all))
+}
+
+// The lines of so many vertices by the generator's words, one number after the other.
+fn lines_by_words(alloc: Global, seed: u64, vertices: u32) -> Result<String, AllocError> {
+    let mut words = Lcg64Xsh32::new(seed, 1);
+    let mut text = String::new(alloc);
+    for vid in 0..vertices {
+        text.push_str(&format!(in alloc; "{vid}")?)?;
+        for _ in 0..words.next_word() % 4 {
+            let target = words.next_word() % vertices;
+            let weight = words.next_word() % 100 + 1;
+            text.push_str(&format!(in alloc; " {target}:{weight}")?)?;
+        }
+        text.push_str("\n")?;
+    }
+    Ok(text)
+}
+
+// The text of seed 7 comes from PCG's definition, worked out outside of Rattle.
+#[test]
+fn ten_generated_lines(rt: HostRuntime) -> Result<(), Fail> {
+    let want =
+        "0 6:13 1:38\n1 7:80 1:97 1:52\n2\n3 9:96\n4 7:10 5:65\n5 0:83\n6 8:75 0:40 0:45\n7\n8 0:24 4:71\n9 1:75\n";
+    let by_words = lines_by_words(rt.alloc(), 7, 10)?;
+    assert_eq!(rt; by_words.as_str(), want);
+    for seed in [0, 1, 7, u64::MAX] {
+        let want = lines_by_words(rt.alloc(), seed, 10)?;
+        for most in [1, 7, 64] {
+            let mut source = GenSource::new(seed, 10);
+            match bytes_of(rt.alloc(), &mut source, most)? {
+                Ok(got) => assert_eq!(rt; got.as_slice(), want.as_bytes(), "seed {seed} by {most}"),
+                Err(_) => assert!(rt; false),
+            }
+        }
+    }
+    Ok(())
+}
+
+// A generated text is a good one, also of a single vertex and of none.
+#[test]
+fn generated_texts_are_read(rt: HostRuntime) -> Result<(), Fail> {
+    for (vertices, want) in [
+        (0, [].as_slice()),
+        (1, [0].as_slice()),
+        (3, [0, 1, 2].as_slice()),
+    ] {
+        let mut found = Vec::new(rt.alloc());
+        let mut source = GenSource::new(7, vertices);
+        let mut parser = Parser::open(Frame::new(rt.alloc(), 256)?, 1000);
+        let mut into = VertexBuf::over(Frame::new(rt.alloc(), 256)?, 112);
+        let got = read_all(&mut parser, &mut source, &mut into, &mut found)?;
+        assert_eq!(rt; got, Ok(()));
+        assert_eq!(rt; found.as_slice(), want);
     }
     Ok(())
 }
