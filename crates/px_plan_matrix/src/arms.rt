@@ -1,5 +1,5 @@
 // A run by the plan of its setup.
-ghost use Rattle.std.specs.Prelude.{◌≡◌, ◌≤◌, ◌<◌, ◌++◌, ◌^◌, [], ℕ, List, true};
+ghost use Rattle.std.specs.Prelude.{◌≡◌, ◌≤◌, ◌<◌, ◌++◌, ◌^◌, [], ℕ, List, true, false};
 ghost use Rattle.px_frames.specs.Banks.{IsFrameLen};
 ghost use Rattle.px_load.specs.Dumping.{SomeOf};
 ghost use Rattle.px_meaning.specs.Due.{due_of_text};
@@ -7,7 +7,9 @@ ghost use Rattle.px_meaning.specs.Graph.{room_of};
 ghost use Rattle.px_meaning.specs.GraphText.{graph_of};
 ghost use Rattle.px_plan_matrix.specs.Base.{IsBasePlan};
 ghost use Rattle.px_superstep.specs.Ends.{text_due, IsOwed, IsLineOwed, IsAfterText, IsCut, IsUnwritten, IsUnread, FaultsAt};
+ghost use Rattle.px_superstep.specs.Lines.{Grew, TellsLast};
 ghost use Rattle.px_superstep.specs.Plans.{needed};
+ghost use Rattle.px_superstep.specs.Reached.{reached_of_text};
 ghost use Rattle.px_superstep.specs.declared.plan.End.TheVariants as ends;
 
 use px_btree::BTree;
@@ -21,7 +23,7 @@ use std::alloc::Global;
 
 /// Runs a program on the text of a graph, over the kinds that the setup's plan names, and says how the run ended.
 /// Of the plans only the base plan runs yet. Want of memory is the one end that any run with frames enough may have, and then no device was asked.
-/// The error sink is for lines on supersteps, of which none is written yet.
+/// With `stats` the lines of the last 64 supersteps are written to `errs` after a run that ended well; a sink that fails there changes nothing else.
 pub fn dispatch<P: Program, R: Source, W: Sink, E: Sink, G: Disk, S: Disk, T: Turns>(
     alloc: Global,
     program: P,
@@ -57,14 +59,18 @@ pub fn dispatch<P: Program, R: Source, W: Sink, E: Sink, G: Disk, S: Disk, T: Tu
     ensures part { IsCut result → (bytes h : List ℕ) → R.left source.old bytes → (G.shown graph.old).tells ≡ true → (S.shown scratch.old).tells ≡ true → W.holds out.old h
         → SomeOf (text_due setup.now.summary (P.meaning program) (room_of setup.now.frame_bytes) setup.now.max (graph_of bytes (room_of setup.now.frame_bytes) (2 ^ 48))) (λ t. W.holds out.new (h ++ t)) }
     ensures unwritten { IsUnwritten result → out.new ≡ out.old }
-    ensures errs { errs.new ≡ errs.old }
+
+    // What was written of the last supersteps.
+    ensures quiet { setup.now.stats ≡ false → errs.new ≡ errs.old }
+    ensures quiet_end { (result ≡ ends.Done → ⊥) → errs.new ≡ errs.old }
+    ensures stats { result ≡ ends.Done → setup.now.stats ≡ true → (bytes e : List ℕ) → R.left source.old bytes → (G.shown graph.old).tells ≡ true → (S.shown scratch.old).tells ≡ true → E.holds errs.old e
+        → (t : List ℕ) × TellsLast (reached_of_text (P.meaning program) (room_of setup.now.frame_bytes) setup.now.max (graph_of bytes (room_of setup.now.frame_bytes) (2 ^ 48))) t × Grew (E.holds errs.new) (E.faults errs.old) (E.faults errs.new) e t }
 
     // What was read, and which device failed.
     ensures read { IsAfterText result → (bytes : List ℕ) → R.left source.old bytes → R.left source.new [] }
     ensures faults { FaultsAt (R.faults source.old) (R.faults source.new) (W.faults out.old) (W.faults out.new) (G.shown graph.old).faults (G.shown graph.new).faults (S.shown scratch.old).faults (S.shown scratch.new).faults result }
 {
-    let _ = errs;
-    run_job::<P, OuterJoin, SortGroup, Partitioning, BTree, R, W, G, S, T>(
-        alloc, program, setup, source, out, graph, scratch, turns,
+    run_job::<P, OuterJoin, SortGroup, Partitioning, BTree, R, W, E, G, S, T>(
+        alloc, program, setup, source, out, errs, graph, scratch, turns,
     )
 }

@@ -30,3 +30,5 @@ pub mod Places
 mod Stepping
 mod Loaded
 mod JobStanding
+mod Written
+pub mod Reaching

@@ -6,10 +6,12 @@ pub mod Gathering
 pub mod LoadTooling
 pub mod Jobs
 pub mod Lending
+pub mod Lines
 pub mod Parting
 pub mod Partial
 pub mod Phases
 pub mod Plans
+pub mod Reached
 pub mod Steps
 pub mod SettleTooling
 pub mod Tooling

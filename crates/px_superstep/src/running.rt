@@ -1,5 +1,5 @@
 // A whole run over a job: from a text to a text.
-ghost use Rattle.std.specs.Prelude.{◌≡◌, ◌≤◌, ◌<◌, ◌+◌, ◌++◌, ◌^◌, [], ℕ, suc, List, Bool, true, false, None, OnOk, IfOk, IfErr};
+ghost use Rattle.std.specs.Prelude.{◌≡◌, ◌≤◌, ◌<◌, ◌+◌, ◌++◌, ◌^◌, [], ◌∷◌, ℕ, suc, List, Bool, true, false, None, flat_map, OnOk, OnErr, IfOk, IfErr};
 ghost use Rattle.px_core.specs.Shown.{Shown, Clean, Started};
 ghost use Rattle.px_cache.specs.View.{AnyFile};
 ghost use Rattle.px_frames.specs.Banks.{IsFrameLen};
@@ -15,7 +15,9 @@ ghost use Rattle.px_meaning.specs.Step.{State, step};
 ghost use Rattle.px_superstep.specs.Ends.{end_of_load, end_of_step, end_of_dump, is_graph, is_scratch, text_due, IsDiskEnd, IsStepEnd, IsRunEnd, IsOwed, IsLineOwed, IsAfterText, IsCut, IsUnwritten, IsUnread, RunEnds, FaultsAt};
 ghost use Rattle.px_superstep.specs.Files.{IsStepFile};
 ghost use Rattle.px_superstep.specs.Jobs.{IsJob, JobStands, JobStandsNext};
+ghost use Rattle.px_superstep.specs.Lines.{asked_of, last_of, line_between, line_text, AreLinesOf, Grew, TellsLast};
 ghost use Rattle.px_superstep.specs.Plans.{needed};
+ghost use Rattle.px_superstep.specs.Reached.{reached, reached_of_text};
 ghost use Rattle.px_superstep.specs.declared.plan.End.TheVariants as ends;
 ghost use Rattle.px_superstep.specs.declared.plan.StoreKind.TheVariants.{BTree};
 
@@ -23,6 +25,7 @@ use crate::job::Job;
 use crate::opening::open_bank;
 use crate::plan::{End, Setup};
 use crate::sharing::{need, shares};
+use crate::stats::Stats;
 use px_connectors::Connector;
 use px_core::{Disk, Sink, Source, Stop, Turns};
 use px_load::{DumpStop, LoadStop};
@@ -121,6 +124,7 @@ fn is_still<P: Program, J: Join, G: Group, C: Connector, St: Store>(
 // Takes one superstep of a run, and says which one an end is in.
 fn advance<P: Program, J: Join, G: Group, C: Connector, St: Store, GD: Disk, SD: Disk, T: Turns>(
     job: &mut Job<P, J, G, C, St>,
+    stats: &mut Stats,
     graph: &mut GD,
     scratch: &mut SD,
     turns: &mut T,
@@ -132,6 +136,8 @@ fn advance<P: Program, J: Join, G: Group, C: Connector, St: Store, GD: Disk, SD:
     ensures stands { OnOk result ((s : State)
         → JobStands (P.meaning job.old.program) (room_of job.old.bank.frame_len) J.probing St.holds (GD.shown graph.old) (SD.shown scratch.old) job.old s
         → JobStandsNext (P.meaning job.old.program) (room_of job.old.bank.frame_len) J.probing St.holds (GD.shown graph.new) (SD.shown scratch.new) job.new s) }
+    ensures noted { OnOk result (stats.new ≡ last_of (stats.old ++ line_between job.new.gs (asked_of (GD.shown graph.old) (SD.shown scratch.old)) (asked_of (GD.shown graph.new) (SD.shown scratch.new)) ∷ [])) }
+    ensures unnoted { OnErr result (stats.new ≡ stats.old) }
     ensures number { OnOk result (job.new.gs.superstep ≡ job.old.gs.superstep + 1) }
     ensures bank { job.new.bank ≡ job.old.bank }
     ensures program { P.meaning job.new.program ≡ P.meaning job.old.program }
@@ -145,7 +151,7 @@ fn advance<P: Program, J: Join, G: Group, C: Connector, St: Store, GD: Disk, SD:
     ensures scratch_faults { IfErr result (λ e. Counts (is_scratch e) (SD.shown scratch.old).faults (SD.shown scratch.new).faults) }
 {
     let superstep = job.gs().superstep + 1;
-    match job.superstep(graph, scratch, turns) {
+    match stats.step(job, graph, scratch, turns) {
         Ok(()) => Ok(()),
         Err(stop) => Err(end_at(superstep, stop)),
     }
@@ -163,6 +169,7 @@ fn run_to_halt<
     T: Turns,
 >(
     job: &mut Job<P, J, G, C, St>,
+    stats: &mut Stats,
     most: u32,
     graph: &mut GD,
     scratch: &mut SD,
@@ -171,10 +178,14 @@ fn run_to_halt<
     requires job { IsJob St.part St.counted job.old }
     requires graph_len { (GD.shown graph.old).page_len ≡ job.old.bank.frame_len }
     requires scratch_len { (SD.shown scratch.old).page_len ≡ job.old.bank.frame_len }
+    requires fresh { stats.old ≡ [] }
     requires first { job.old.gs.superstep ≡ 0 }
     ensures halted { OnOk result ((s : State)
         → JobStands (P.meaning job.old.program) (room_of job.old.bank.frame_len) J.probing St.holds (GD.shown graph.old) (SD.shown scratch.old) job.old s
         → HasHalted (P.meaning job.old.program) (room_of job.old.bank.frame_len) most s (JobStands (P.meaning job.old.program) (room_of job.old.bank.frame_len) J.probing St.holds (GD.shown graph.new) (SD.shown scratch.new) job.new)) }
+    ensures noted { OnOk result ((s : State)
+        → JobStands (P.meaning job.old.program) (room_of job.old.bank.frame_len) J.probing St.holds (GD.shown graph.old) (SD.shown scratch.old) job.old s
+        → AreLinesOf (last_of (reached (P.meaning job.old.program) (room_of job.old.bank.frame_len) most s)) stats.new) }
     ensures bank { job.new.bank ≡ job.old.bank }
     ensures program { P.meaning job.new.program ≡ P.meaning job.old.program }
     ensures job { OnOk result (IsJob St.part St.counted job.new) }
@@ -194,7 +205,7 @@ fn run_to_halt<
         if is_still(job) {
             return Ok(());
         }
-        advance(job, graph, scratch, turns)?;
+        advance(job, stats, graph, scratch, turns)?;
     }
     if is_still(job) {
         Ok(())
@@ -217,6 +228,7 @@ fn run_phases<
     T: Turns,
 >(
     job: &mut Job<P, J, G, C, St>,
+    stats: &mut Stats,
     setup: &Setup,
     source: &mut R,
     out: &mut W,
@@ -225,16 +237,20 @@ fn run_phases<
     turns: &mut T,
 ) -> Result<(), End>
     requires job { IsJob St.part St.counted job.old }
+    requires fresh { stats.old ≡ [] }
     requires frame_len { job.old.bank.frame_len ≡ setup.now.frame_bytes }
     requires no_probes { J.probing ≡ false }
     ensures done { OnOk result (RunEnds R.left W.holds (λ bytes. graph_of bytes (room_of setup.now.frame_bytes) (2 ^ 48)) (P.meaning job.old.program) (room_of setup.now.frame_bytes) setup.now.max setup.now.summary source.old source.new out.old out.new (GD.shown graph.old) (SD.shown scratch.old) ends.Done) }
     ensures end { IfErr result (RunEnds R.left W.holds (λ bytes. graph_of bytes (room_of setup.now.frame_bytes) (2 ^ 48)) (P.meaning job.old.program) (room_of setup.now.frame_bytes) setup.now.max setup.now.summary source.old source.new out.old out.new (GD.shown graph.old) (SD.shown scratch.old)) }
+    ensures unfinished { IfErr result (λ e. e ≡ ends.Done → ⊥) }
+    ensures noted { OnOk result ((bytes : List ℕ) → R.left source.old bytes → (GD.shown graph.old).tells ≡ true → (SD.shown scratch.old).tells ≡ true
+        → AreLinesOf (last_of (reached_of_text (P.meaning job.old.program) (room_of setup.now.frame_bytes) setup.now.max (graph_of bytes (room_of setup.now.frame_bytes) (2 ^ 48)))) stats.new) }
     ensures no_fault { OnOk result (FaultsAt (R.faults source.old) (R.faults source.new) (W.faults out.old) (W.faults out.new) (GD.shown graph.old).faults (GD.shown graph.new).faults (SD.shown scratch.old).faults (SD.shown scratch.new).faults ends.Done) }
     ensures faults { IfErr result (FaultsAt (R.faults source.old) (R.faults source.new) (W.faults out.old) (W.faults out.new) (GD.shown graph.old).faults (GD.shown graph.new).faults (SD.shown scratch.old).faults (SD.shown scratch.new).faults) }
 {
     start_disks(setup.frame_bytes, graph, scratch)?;
     job.load(source, graph, scratch)?;
-    run_to_halt(job, setup.max, graph, scratch, turns)?;
+    run_to_halt(job, stats, setup.max, graph, scratch, turns)?;
     job.finish(graph, scratch, out, setup.summary)?;
     Ok(())
 }
@@ -253,6 +269,7 @@ fn run_opened<
     T: Turns,
 >(
     job: &mut Job<P, J, G, C, St>,
+    stats: &mut Stats,
     setup: &Setup,
     source: &mut R,
     out: &mut W,
@@ -261,19 +278,34 @@ fn run_opened<
     turns: &mut T,
 ) -> End
     requires job { IsJob St.part St.counted job.old }
+    requires fresh { stats.old ≡ [] }
     requires frame_len { job.old.bank.frame_len ≡ setup.now.frame_bytes }
     requires no_probes { J.probing ≡ false }
     ensures ends { RunEnds R.left W.holds (λ bytes. graph_of bytes (room_of setup.now.frame_bytes) (2 ^ 48)) (P.meaning job.old.program) (room_of setup.now.frame_bytes) setup.now.max setup.now.summary source.old source.new out.old out.new (GD.shown graph.old) (SD.shown scratch.old) result }
+    ensures noted { result ≡ ends.Done → (bytes : List ℕ) → R.left source.old bytes → (GD.shown graph.old).tells ≡ true → (SD.shown scratch.old).tells ≡ true
+        → AreLinesOf (last_of (reached_of_text (P.meaning job.old.program) (room_of setup.now.frame_bytes) setup.now.max (graph_of bytes (room_of setup.now.frame_bytes) (2 ^ 48)))) stats.new }
     ensures faults { FaultsAt (R.faults source.old) (R.faults source.new) (W.faults out.old) (W.faults out.new) (GD.shown graph.old).faults (GD.shown graph.new).faults (SD.shown scratch.old).faults (SD.shown scratch.new).faults result }
 {
-    match run_phases(job, setup, source, out, graph, scratch, turns) {
+    match run_phases(job, stats, setup, source, out, graph, scratch, turns) {
         Ok(()) => End::Done,
         Err(end) => end,
     }
 }
 
+// Writes the lines of a run that ended well, where they are asked for. A sink that fails changes nothing else.
+fn report<E: Sink>(setup: &Setup, end: End, stats: &Stats, errs: &mut E)
+    ensures quiet { setup.now.stats ≡ false → errs.new ≡ errs.old }
+    ensures quiet_end { (end ≡ ends.Done → ⊥) → errs.new ≡ errs.old }
+    ensures written { end ≡ ends.Done → setup.now.stats ≡ true → (e : List ℕ) → E.holds errs.old e → Grew (E.holds errs.new) (E.faults errs.old) (E.faults errs.new) e (flat_map line_text stats.now) }
+{
+    if setup.stats && matches!(end, End::Done) {
+        let _ = stats.write(errs);
+    }
+}
+
 /// Loads the text of a graph, takes supersteps until the state is halted, beyond the limits, or as many were taken as are allowed, and writes the text of the halted state.
 /// Want of memory is the one answer that anybody may get where there are frames enough, and then no device was asked.
+/// With `stats` the lines of the last 64 supersteps are written to `errs` after a run that ended well; a sink that fails there changes nothing else.
 /// Joins that look vids up are not run yet: `Job::load` writes no files of vids.
 pub fn run_job<
     P: Program,
@@ -283,6 +315,7 @@ pub fn run_job<
     St: Store,
     R: Source,
     W: Sink,
+    E: Sink,
     GD: Disk,
     SD: Disk,
     T: Turns,
@@ -292,6 +325,7 @@ pub fn run_job<
     setup: &Setup,
     source: &mut R,
     out: &mut W,
+    errs: &mut E,
     graph: &mut GD,
     scratch: &mut SD,
     turns: &mut T,
@@ -322,6 +356,12 @@ pub fn run_job<
         → SomeOf (text_due setup.now.summary (P.meaning program) (room_of setup.now.frame_bytes) setup.now.max (graph_of bytes (room_of setup.now.frame_bytes) (2 ^ 48))) (λ t. W.holds out.new (h ++ t)) }
     ensures unwritten { IsUnwritten result → out.new ≡ out.old }
 
+    // What was written of the last supersteps.
+    ensures quiet { setup.now.stats ≡ false → errs.new ≡ errs.old }
+    ensures quiet_end { (result ≡ ends.Done → ⊥) → errs.new ≡ errs.old }
+    ensures stats { result ≡ ends.Done → setup.now.stats ≡ true → (bytes e : List ℕ) → R.left source.old bytes → (GD.shown graph.old).tells ≡ true → (SD.shown scratch.old).tells ≡ true → E.holds errs.old e
+        → (t : List ℕ) × TellsLast (reached_of_text (P.meaning program) (room_of setup.now.frame_bytes) setup.now.max (graph_of bytes (room_of setup.now.frame_bytes) (2 ^ 48))) t × Grew (E.holds errs.new) (E.faults errs.old) (E.faults errs.new) e t }
+
     // What was read, and which device failed.
     ensures read { IsAfterText result → (bytes : List ℕ) → R.left source.old bytes → R.left source.new [] }
     ensures faults { FaultsAt (R.faults source.old) (R.faults source.new) (W.faults out.old) (W.faults out.new) (GD.shown graph.old).faults (GD.shown graph.new).faults (SD.shown scratch.old).faults (SD.shown scratch.new).faults result }
@@ -336,5 +376,12 @@ pub fn run_job<
     let Ok(mut job) = open_job::<P, J, G, C, St>(alloc, program, setup) else {
         return End::Memory;
     };
-    run_opened(&mut job, setup, source, out, graph, scratch, turns)
+    let Ok(mut stats) = Stats::open(alloc) else {
+        return End::Memory;
+    };
+    let end = run_opened(
+        &mut job, &mut stats, setup, source, out, graph, scratch, turns,
+    );
+    report(setup, end, &stats, errs);
+    end
 }

@@ -4,7 +4,7 @@ ghost use Rattle.px_btree.specs.Open.{OpenTreeView};
 ghost use Rattle.px_superstep.specs.Jobs.{IsJob};
 
 use crate::{
-    ConnectorKind, End, GroupKind, Job, JoinKind, Plan, Setup, Shares, StoreKind, need, open_bank,
+    ConnectorKind, End, GroupKind, Job, JoinKind, Line, Plan, Setup, Shares, Stats, StoreKind, need, open_bank,
     run_job, shares,
 };
 use px_btree::BTree;
@@ -212,6 +212,7 @@ fn run<P: Program>(
 {
     let mut source = MemSource::new(alloc, text, &[fails.source])?;
     let mut sink = MemSink::new(alloc, 4096, &[fails.sink])?;
+    let mut errs = MemSink::new(alloc, 4096, &[])?;
     let mut graph = MemDisk::new(alloc, &[fails.graph])?;
     let mut scratch = MemDisk::new(alloc, &[fails.scratch])?;
     let mut turns = HighTurns::new();
@@ -223,6 +224,7 @@ fn run<P: Program>(
         BTree,
         MemSource,
         MemSink,
+        MemSink,
         MemDisk,
         MemDisk,
         HighTurns,
@@ -232,6 +234,7 @@ fn run<P: Program>(
         setup,
         &mut source,
         &mut sink,
+        &mut errs,
         &mut graph,
         &mut scratch,
         &mut turns,
@@ -312,5 +315,36 @@ fn each_call_of_a_device_fails_in_turn(rt: HostRuntime) -> Result<(), Fail> {
         let (given, _) = run(alloc, Reach::new(1), FOUR, &SMALLEST, fails)?;
         assert_eq!(rt; given, End::Done);
     }
+    Ok(())
+}
+
+#[test]
+fn the_last_64_lines_are_kept(rt: HostRuntime) -> Result<(), Fail> {
+    let mut stats = Stats::open(rt.alloc())?;
+    for superstep in 1..=70u64 {
+        let gs = Gs {
+            superstep,
+            aggregate: 0,
+            live: 2,
+            count: 3,
+            in_flight: 4,
+        };
+        stats.note(Line {
+            gs,
+            graph_reads: 5,
+            graph_writes: 6,
+            scratch_reads: 7,
+            scratch_writes: 8,
+        });
+    }
+    let mut errs = MemSink::new(rt.alloc(), 8192, &[])?;
+    stats.write(&mut errs)?;
+    let mut superstep = 7u64;
+    for line in errs.bytes().split(|b| *b == b'\n').take(64) {
+        let want = format!(in rt.alloc(); "superstep {superstep} count 3 live 2 messages 4 graph 5 6 scratch 7 8")?;
+        assert!(rt; line == want.as_bytes());
+        superstep = superstep.saturating_add(1);
+    }
+    assert!(rt; errs.bytes().ends_with(b"superstep 70 count 3 live 2 messages 4 graph 5 6 scratch 7 8\n"));
     Ok(())
 }

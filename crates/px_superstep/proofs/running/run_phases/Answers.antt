@@ -8,8 +8,14 @@ use Rattle.px_meaning.specs.Graph.{room_of}
 use Rattle.px_meaning.specs.GraphText.{graph_of}
 use Rattle.px_meaning.specs.Program.{ProgramMeaning}
 use Rattle.px_meaning.specs.Step.{State}
-use Rattle.px_superstep.specs.Ends.{is_graph, is_scratch}
+use Rattle.px_load.specs.declared.stops.DumpStop.{DumpStop}
+use Rattle.px_load.specs.declared.stops.DumpStop.TheVariants as dumps
+use Rattle.px_load.specs.declared.stops.LoadStop.{LoadStop}
+use Rattle.px_load.specs.declared.stops.LoadStop.TheVariants as loads
+use Rattle.px_superstep.specs.Ends.{is_graph, is_scratch, end_of_dump, end_of_load, IsDiskEnd, IsRunEnd}
+use Rattle.px_superstep.specs.declared.plan.End.TheVariants.{Done}
 use Rattle.px_superstep.specs.Jobs.{JobStands}
+use Rattle.px_superstep.proofs.Reaching.{lines_moved, lines_of_text}
 use Rattle.px_superstep.proofs.Runs.{counts_from, faults_disk, faults_load, faults_run, faults_dump, ends_early, ends_load, ends_run, ends_dump, ends_done, ends_moved, loaded_of, halts_of, no_messages}
 use Rattle.px_superstep.proofs.running.run_phases.Goals as goal
 
@@ -132,3 +138,50 @@ returns-clause-no_fault g c = record {
   graph = c.in_ok-finish.ensures.clean.no_fault ∙ (c.in_ok-run_to_halt.ensures.clean.no_fault ∙ (c.in_ok-load.ensures.clean.no_fault ∙ c.in_ok-start_disks.ensures.graph.no_fault));
   scratch = c.in_ok-finish.ensures.scratch.no_fault ∙ (c.in_ok-run_to_halt.ensures.scratch.no_fault ∙ (c.in_ok-load.ensures.scratch.no_fault ∙ c.in_ok-start_disks.ensures.scratch.no_fault));
 }
+
+pub returns-clause-noted : goal.returns-clause-noted
+returns-clause-noted g c = λ bytes left a b.
+    let meant = g.P.Program.meaning in
+    let job = c.load.new.self in
+    let graph = g.GD.Disk.shown c.load.new.graph in
+    let scratch = g.SD.Disk.shown c.load.new.scratch in
+    let same : room_of job.bank.frame_len ≡ room_of c.args.job.now.bank.frame_len = ap (λ (b : BankView). room_of b.frame_len) c.load.ensures.bank in
+    let here : ProgramMeaning → ℕ → State → Type 0 = λ q k. JobStands q k g.J.Join.probing g.St.Store.holds graph scratch job in
+    let told = c.in_ok-start_disks.ensures.scratch.tells ∙ b in
+    let l = c.in_ok-load.ensures.loaded bytes left c.requires.no_probes told (c.in_ok-start_disks.ensures.graph.tells ∙ a) (no_messages c.args.setup.now.frame_bytes (length c.args.job.now.stores.items) (g.SD.Disk.shown c.args.scratch.now) (g.SD.Disk.shown c.start_disks.new.scratch) c.in_ok-start_disks.ensures.scratch b) in
+    let loaded = loaded_of here (meant job.program) (room_of c.args.job.now.bank.frame_len) (room_of job.bank.frame_len) (room_of c.args.setup.now.frame_bytes) (λ (n : ℕ). graph_of bytes n (2 ^ 48)) (sym same) (ap room_of c.requires.frame_len) l.vertices l.good l.stands in
+    lines_moved (meant c.args.job.now.program) (meant job.program) (room_of c.args.setup.now.frame_bytes) (room_of job.bank.frame_len) c.args.setup.now.max _ c.run_to_halt.new.stats c.load.ensures.program (same ∙ ap room_of c.requires.frame_len)
+    (lines_of_text (meant job.program) (room_of job.bank.frame_len) c.args.setup.now.max _ c.run_to_halt.new.stats (here (meant job.program) (room_of job.bank.frame_len)) c.in_ok-run_to_halt.ensures.noted loaded)
+
+-- why a run stopped is no end that is well
+load_unfinished : (x : LoadStop) → end_of_load x ≡ Done → ⊥
+load_unfinished loads.Source is = cc is
+load_unfinished (loads.Bad line kind) is = cc is
+load_unfinished (loads.Twice v) is = cc is
+load_unfinished loads.Graph is = cc is
+load_unfinished loads.Scratch is = cc is
+
+dump_unfinished : (x : DumpStop) → end_of_dump x ≡ Done → ⊥
+dump_unfinished dumps.Graph is = cc is
+dump_unfinished dumps.Scratch is = cc is
+dump_unfinished dumps.Sink is = cc is
+
+pub returns-in_err-start_disks-clause-unfinished : goal.returns-in_err-start_disks-clause-unfinished
+returns-in_err-start_disks-clause-unfinished g c =
+    let end = err_from_is_err_and c.from_residual.result c.from_residual.ensures.1 in
+    rw (end.1, end.2) (λ is. subst IsDiskEnd is c.in_err-start_disks.ensures.kind)
+
+pub returns-in_err-load-clause-unfinished : goal.returns-in_err-load-clause-unfinished
+returns-in_err-load-clause-unfinished g c =
+    let end = err_from_is_err_and c.from_residual-in_err-load.result c.from_residual-in_err-load.ensures.1 in
+    rw (end.1, end.2) (load_unfinished c.in_err-load.field-0.0)
+
+pub returns-in_err-run_to_halt-clause-unfinished : goal.returns-in_err-run_to_halt-clause-unfinished
+returns-in_err-run_to_halt-clause-unfinished g c =
+    let end = err_from_is_err_and c.from_residual-in_err-run_to_halt.result c.from_residual-in_err-run_to_halt.ensures.1 in
+    rw (end.1, end.2) (λ is. subst (IsRunEnd _ _) is c.in_err-run_to_halt.ensures.end)
+
+pub returns-in_err-finish-clause-unfinished : goal.returns-in_err-finish-clause-unfinished
+returns-in_err-finish-clause-unfinished g c =
+    let end = err_from_is_err_and c.from_residual-in_err-finish.result c.from_residual-in_err-finish.ensures.1 in
+    rw (end.1, end.2) (dump_unfinished c.in_err-finish.field-0.0)

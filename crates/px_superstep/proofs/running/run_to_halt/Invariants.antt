@@ -6,9 +6,10 @@ use Rattle.px_meaning.specs.Runs.{HasRun}
 use Rattle.px_meaning.specs.Step.{State}
 use Rattle.px_superstep.specs.Files.{IsStepFile}
 use Rattle.px_superstep.specs.Jobs.{IsJob, JobStands}
+use Rattle.px_superstep.proofs.Reaching.{HasNoted}
 use Rattle.px_superstep.proofs.running.run_to_halt.Given as goal
 
--- so many steps of the run were taken
+-- so many steps of the run were taken, and their lines noted
 abbrev pub invariant-loop : goal.invariant-loop
 invariant-loop g l =
     let was = l.fn.job in
@@ -18,7 +19,7 @@ invariant-loop g l =
     let of_scratch = g.SD.Disk.shown in
     record {
       runs : (s : State) → JobStands p room g.J.Join.probing g.St.Store.holds (of_graph l.fn.graph) (of_scratch l.fn.scratch) was s
-          → HasRun p room l.most l.counter s (JobStands p room g.J.Join.probing g.St.Store.holds (of_graph l.graph) (of_scratch l.scratch) l.job);
+          → HasRun p room l.most l.counter s (λ st. JobStands p room g.J.Join.probing g.St.Store.holds (of_graph l.graph) (of_scratch l.scratch) l.job st × HasNoted p room l.most l.counter s l.stats st);
       job : IsJob g.St.Store.part g.St.Store.counted l.job;
       number : l.job.gs.superstep ≡ l.counter;
       bank : l.job.bank ≡ was.bank;
