@@ -1,29 +1,31 @@
 -- How a job's run ends, from how its dispatch does.
-use Rattle.std.proofs.Common.{◌≡◌, ◌≤◌, ◌<◌, ◌^◌, ◌++◌, ℕ, List, [], take, true, false, nat_lt, Option, Some, refl, sym, ◌∙◌, ap, subst, inl, inr}
+use Rattle.std.proofs.Common.{◌≡◌, ◌≤◌, ◌<◌, ◌^◌, ◌++◌, ◌==◌, ℕ, Bool, List, [], take, true, false, not, nat_lt, Option, Some, None, is_some, refl, sym, ◌∙◌, ap, subst, inl, inr}
+use Rattle.std.specs.Prelude.{IsTrue}
+use Rattle.std.proofs.Math.Nat.{not-suc-le-zero}
 use Rattle.std.proofs.lemmas.Bool.{cases_lt, cond-true, cond-false, lt-ltb, le-ltb}
+use Rattle.px_core.specs.Counts.{Rose}
 use Rattle.px_core.specs.Shown.{Shown}
+use Rattle.px_graph_text.specs.Generated.{generated}
 use Rattle.px_graph_text.specs.Kinds.{kind_of}
 use Rattle.px_graph_text.specs.declared.refusal.Kind.{Kind}
 use Rattle.px_graph_text.specs.declared.refusal.Kind.TheVariants.{Form, Number, Wide, Long}
 use Rattle.px_load.specs.Dumping.{SomeOf}
+use Rattle.px_load.specs.Stops.{Counts}
 use Rattle.px_meaning.specs.Due as owed
 use Rattle.px_meaning.specs.Due.{due_of_text}
 use Rattle.px_meaning.specs.Graph.{room_of}
-use Rattle.px_meaning.specs.GraphText as text
-use Rattle.px_meaning.specs.GraphText.{TextMeaning, graph_of}
-use Rattle.px_meaning.specs.Meaning as outcomes
-use Rattle.px_meaning.specs.Meaning.{Outcome, meaning}
+use Rattle.px_meaning.specs.GraphText.{graph_of}
 use Rattle.px_meaning.specs.Program.{ProgramMeaning}
 use Rattle.px_superstep.specs.Ends as ends
-use Rattle.px_superstep.specs.Ends.{IsOwed, IsLineOwed, IsAfterText, IsUnread, FaultsAt, text_due, text_of_outcome}
+use Rattle.px_superstep.specs.Ends.{IsOwed, IsLineOwed, IsAfterText, IsUnread, FaultsAt, text_due}
 use Rattle.px_superstep.specs.Plans.{needed}
 use Rattle.px_superstep.specs.declared.plan.End.{End}
 use Rattle.px_superstep.specs.declared.plan.End.TheVariants.{Done, Short, Memory, Bad, Twice, Beyond, Limit, Graph, Scratch, Source, Sink}
 use Rattle.px_superstep.specs.declared.plan.Setup.{Setup}
 use Rattle.px_tool.specs.Clauses.{DisksTell, HasEnded, HasFaults, IsAfterInput, IsCut, IsDecided, IsUnasked, IsUnwritten, RestsOnDisks, RestsOnText}
-use Rattle.px_tool.specs.Due.{DueShort, DueOf, due_if, due_in_frames, due_of_job, need_of, program_of, setup_of}
-use Rattle.px_tool.specs.Endings.{end_of, ending_of, kind_named, status_of, status_of_end, text_of_due, text_owed}
-use Rattle.px_tool.specs.declared.words.Job.{Job}
+use Rattle.px_tool.specs.Due.{Due, DueShort, DueOf, due_if, due_in_frames, due_of_job, need_of, notes_if, output_if, output_of, program_of, reads_if, setup_of, states_if, states_of, text_for, text_read}
+use Rattle.px_tool.specs.Endings.{end_of, ending_of, kind_named, status_of, status_of_end}
+use Rattle.px_words.specs.declared.job.Job.{Job}
 use Rattle.px_tool.specs.declared.ending.Ending.{Ending}
 use Rattle.px_tool.specs.declared.ending.Ending.TheVariants.{Ran}
 
@@ -106,20 +108,6 @@ short_is job l e short h =
       | inr enough ↦ absurd (never_short (due_in_frames job l) (sym (ap (λ d. status_of (ending_of d)) (due_enough job l enough)) ∙ h))
     ]
 
--- the text that is due is the one that is owed
-text_of_outcome_is : (p : ProgramMeaning) (o : Outcome) → text_of_outcome false p o ≡ text_of_due (owed.due_of_outcome p o)
-text_of_outcome_is p (outcomes.Halted s) = refl
-text_of_outcome_is p (outcomes.Limit n) = refl
-text_of_outcome_is p (outcomes.Beyond s) = refl
-
-text_due_is : (p : ProgramMeaning) (room most : ℕ) (m : TextMeaning) → text_due false p room most m ≡ text_of_due (due_of_text p room most m)
-text_due_is p room most (text.Bad line kind) = refl
-text_due_is p room most (text.Twice v) = refl
-text_due_is p room most (text.Good graph) = text_of_outcome_is p (meaning p room graph most)
-
-text_is : (job : Job) (l : List ℕ) → need_of job ≤ job.frames → text_due false (program_of job.chosen) (room_of job.frame_bytes) job.most (graph_of l (room_of job.frame_bytes) (2 ^ 48)) ≡ text_owed (due_of_job job l)
-text_is job l enough = text_due_is (program_of job.chosen) (room_of job.frame_bytes) job.most (graph_of l (room_of job.frame_bytes) (2 ^ 48)) ∙ sym (ap text_owed (due_enough job l enough))
-
 -- the ends that a status names
 done_is : (e : End) → status_of_end e ≡ 0 → e ≡ Done
 done_is Done h = refl
@@ -133,6 +121,9 @@ done_is Graph h = absurd (cc h)
 done_is Scratch h = absurd (cc h)
 done_is Source h = absurd (cc h)
 done_is Sink h = absurd (cc h)
+
+pub done_of : {e : End} → Ran e ≡ Ran Done → e ≡ Done
+done_of {e} h = done_is e (ap status_of h)
 
 sink_is : (e : End) → status_of_end e ≡ 9 → e ≡ Sink
 sink_is Done h = absurd (cc h)
@@ -159,9 +150,6 @@ cut_is Graph h = tt
 cut_is Scratch h = tt
 cut_is Source h = cc h
 cut_is Sink h = tt
-
-cut_not_short : (e : End) → ends.IsCut e → (need have : ℕ) → e ≡ Short need have → ⊥
-cut_not_short e h need have is = subst ends.IsCut is h
 
 unwritten_is : (e : End) → IsUnwritten (status_of_end e) → ends.IsUnwritten e
 unwritten_is Done h = cc h
@@ -206,29 +194,23 @@ unasked_is Sink h = cc h
 owed_text : (job : Job) (l : List ℕ) → need_of job ≤ job.frames → (t : List ℕ) × (due_in_frames job l ≡ owed.DueText t) → ending_of (due_of_job job l) ≡ Ran Done
 owed_text job l enough d = owed_in_frames job l Done enough (ap end_of d.1)
 
-part_of : {W : Type 0} (holds : W → List ℕ → Type 0) (out : W) (h due whole : List ℕ) → due ≡ whole → SomeOf due (λ t. holds out (h ++ t)) → (n : ℕ) × holds out (h ++ take n whole)
-part_of holds out h due whole is some = (some.most, subst (λ t. holds out (h ++ take some.most t)) is some.holds)
+part_of : {W : Type 0} (holds : W → List ℕ → Type 0) (out : W) (h due : List ℕ) → SomeOf due (λ t. holds out (h ++ t)) → (n : ℕ) × holds out (h ++ take n due)
+part_of holds out h due some = (some.most, some.holds)
 
--- the job's run ended
+-- the job's run ended on the text of its source
 ended_as : {R W G S : Type 0} (left : R → List ℕ → Type 0) (holds : W → List ℕ → Type 0) (g s : Shown) (job : Job) (source_was source_now : R) (out_was out_now : W) (graph_was graph_now : G) (scratch_was scratch_now : S) (e : End)
     → Dispatched left holds g s (program_of job.chosen) (setup_of job) source_was source_now out_was out_now graph_was graph_now scratch_was scratch_now e
-    → HasEnded left holds g s (due_of_job job) source_was source_now out_was out_now graph_was graph_now scratch_was scratch_now (Ran e)
+    → HasEnded (left source_was) (left source_now []) (source_now ≡ source_was) holds g s (due_of_job job) (output_of job) out_was out_now graph_was graph_now scratch_was scratch_now (Ran e)
 ended_as left holds g s job source_was source_now out_was out_now graph_was graph_now scratch_was scratch_now e d =
     record {
       owed = λ decided l said told. owes job l e d.short d.enough (λ x. d.line l x) (λ x (y : DisksTell g s). d.decided l x y.graph_tells y.scratch_tells) decided said told;
-      short = λ l h. short_is job l e d.short h;
+      short = λ l h. inl (short_is job l e d.short h);
       sink = λ is l x y.
           (let at : e ≡ Sink = sink_is e is in
           let enough = enough_of job e d.short (λ n k h. cc (sym at ∙ h)) in
           owed_text job l enough (subst (IsOwed (due_in_frames job l)) at (d.decided l x y.graph_tells y.scratch_tells)));
-      text = λ is l h x y held.
-          (let at : e ≡ Done = done_is e is in
-          let enough = enough_of job e d.short (λ n k h. cc (sym at ∙ h)) in
-          subst (λ t. holds out_now (h ++ t)) (text_is job l enough) (d.text at l h x y.graph_tells y.scratch_tells held));
-      part = λ is l h x y held.
-          (let cut = cut_is e is in
-          let enough = enough_of job e d.short (cut_not_short e cut) in
-          part_of holds out_now h _ _ (text_is job l enough) (d.part cut l h x y.graph_tells y.scratch_tells held));
+      text = λ is l h x y held. d.text (done_is e is) l h x y.graph_tells y.scratch_tells held;
+      part = λ is l h x y held. part_of holds out_now h (output_of job l) (d.part (cut_is e is) l h x y.graph_tells y.scratch_tells held);
       unwritten = λ is. d.unwritten (unwritten_is e is);
       read = λ is l x. d.read (after_is e is) l x;
       source = λ is. d.unread (unasked_is e is);
@@ -239,7 +221,7 @@ ended_as left holds g s job source_was source_now out_was out_now graph_was grap
 pub ended : {R W G S : Type 0} (left : R → List ℕ → Type 0) (holds : W → List ℕ → Type 0) (g s : Shown) (job : Job) (source_was source_now : R) (out_was out_now : W) (graph_was graph_now : G) (scratch_was scratch_now : S) (e : End) (p : ProgramMeaning) (setup : Setup)
     → p ≡ program_of job.chosen → setup ≡ setup_of job
     → Dispatched left holds g s p setup source_was source_now out_was out_now graph_was graph_now scratch_was scratch_now e
-    → HasEnded left holds g s (due_of_job job) source_was source_now out_was out_now graph_was graph_now scratch_was scratch_now (Ran e)
+    → HasEnded (left source_was) (left source_now []) (source_now ≡ source_was) holds g s (due_of_job job) (output_of job) out_was out_now graph_was graph_now scratch_was scratch_now (Ran e)
 ended left holds g s job source_was source_now out_was out_now graph_was graph_now scratch_was scratch_now e p setup means is d =
     ended_as left holds g s job source_was source_now out_was out_now graph_was graph_now scratch_was scratch_now e
     (subst (λ (x : Setup). Dispatched left holds g s (program_of job.chosen) x source_was source_now out_was out_now graph_was graph_now scratch_was scratch_now e) is
@@ -259,9 +241,73 @@ faults_are r r' w w' g g' s s' Scratch f = record { source = f.source; sink = f.
 faults_are r r' w w' g g' s s' Source f = record { source = f.source; sink = f.sink; graph = f.graph; scratch = f.scratch }
 faults_are r r' w w' g g' s s' Sink f = record { source = f.source; sink = f.sink; graph = f.graph; scratch = f.scratch }
 
--- the run ended whose words name the job
-pub ended_for : {R W G S : Type 0} (left : R → List ℕ → Type 0) (holds : W → List ℕ → Type 0) (g s : Shown) (o : Option Job) (job : Job) (source_was source_now : R) (out_was out_now : W) (graph_was graph_now : G) (scratch_was scratch_now : S) (e : Ending)
-    → o ≡ Some job → HasEnded left holds g s (due_of_job job) source_was source_now out_was out_now graph_was graph_now scratch_was scratch_now e
-    → HasEnded left holds g s (due_if o) source_was source_now out_was out_now graph_was graph_now scratch_was scratch_now e
-ended_for left holds g s o job source_was source_now out_was out_now graph_was graph_now scratch_was scratch_now e is h =
-    subst (λ (x : Option Job). HasEnded left holds g s (due_if x) source_was source_now out_was out_now graph_was graph_now scratch_was scratch_now e) (sym is) h
+-- a run that ended on the text that is made of an input ended so for the input
+module _ {W G S : Type 0} (Left Left' : List ℕ → Type 0) (Read Read' Untouched Untouched' : Type 0) (holds : W → List ℕ → Type 0) (g s : Shown) (due due' : List ℕ → Due) (output output' : List ℕ → List ℕ) (text : List ℕ → List ℕ) (out_was out_now : W) (graph_was graph_now : G) (scratch_was scratch_now : S) (e : Ending) where
+  pub ended_by : ((l : List ℕ) → due' l ≡ due (text l)) → ((l : List ℕ) → output' l ≡ output (text l)) → ((l : List ℕ) → Left' l → Left (text l)) → (Read → Read') → (Untouched → Untouched')
+      → HasEnded Left Read Untouched holds g s due output out_was out_now graph_was graph_now scratch_was scratch_now e
+      → HasEnded Left' Read' Untouched' holds g s due' output' out_was out_now graph_was graph_now scratch_was scratch_now e
+  ended_by dues outputs told read untouched h =
+      record {
+        owed = λ decided l said disks. ap ending_of (dues l) ∙ h.owed decided (text l) (λ x. told l (said x)) disks;
+        short = λ l is. h.short (text l) (sym (ap (λ d. status_of (ending_of d)) (dues l)) ∙ is);
+        sink = λ is l x y. ap ending_of (dues l) ∙ h.sink is (text l) (told l x) y;
+        text = λ is l b x y held. subst (λ t. holds out_now (b ++ t)) (sym (outputs l)) (h.text is (text l) b (told l x) y held);
+        part = λ is l b x y held. subst (λ t. (n : ℕ) × holds out_now (b ++ take n t)) (sym (outputs l)) (h.part is (text l) b (told l x) y held);
+        unwritten = h.unwritten;
+        read = λ is l x. read (h.read is (text l) (told l x));
+        source = λ is. untouched (h.source is);
+        graph = h.graph;
+        scratch = h.scratch;
+      }
+
+-- what the words owe that name a job
+due_named : (o : Option Job) (job : Job) → o ≡ Some job → (l : List ℕ) → due_if o l ≡ due_of_job job (text_for job l)
+due_named o job is l = ap (λ x. due_if x l) is
+
+output_named : (o : Option Job) (job : Job) → o ≡ Some job → (l : List ℕ) → output_if o l ≡ output_of job (text_for job l)
+output_named o job is l = ap (λ x. output_if x l) is
+
+reads_named : (o : Option Job) (job : Job) → o ≡ Some job → reads_if o ≡ not (is_some job.generate)
+reads_named o job is = ap reads_if is
+
+-- the run ended whose words name a job that reads the input
+module _ {W G S : Type 0} (Left : List ℕ → Type 0) (Read Untouched : Type 0) (holds : W → List ℕ → Type 0) (g s : Shown) (o : Option Job) (job : Job) (out_was out_now : W) (graph_was graph_now : G) (scratch_was scratch_now : S) (e : Ending) where
+  pub ended_reading : o ≡ Some job → job.generate ≡ None
+      → HasEnded Left Read Untouched holds g s (due_of_job job) (output_of job) out_was out_now graph_was graph_now scratch_was scratch_now e
+      → HasEnded (λ l. IsTrue (reads_if o) → Left l) (IsTrue (reads_if o) → Read) Untouched holds g s (due_if o) (output_if o) out_was out_now graph_was graph_now scratch_was scratch_now e
+  ended_reading is none h =
+      let here : (l : List ℕ) → text_for job l ≡ l = λ l. ap (λ (x : Option ℕ). text_read x job.seed l) none in
+      let reads : IsTrue (reads_if o) = reads_named o job is ∙ ap (λ (x : Option ℕ). not (is_some x)) none in
+      ended_by Left (λ l. IsTrue (reads_if o) → Left l) Read (IsTrue (reads_if o) → Read) Untouched Untouched holds g s (due_of_job job) (due_if o) (output_of job) (output_if o) (λ l. l) out_was out_now graph_was graph_now scratch_was scratch_now e
+      (λ l. due_named o job is l ∙ ap (due_of_job job) (here l)) (λ l. output_named o job is l ∙ ap (output_of job) (here l)) (λ l x. x reads) (λ x r. x) (λ x. x) h
+
+-- and one whose text is generated, so that its source is not asked
+module _ {W G S : Type 0} (Made : List ℕ → Type 0) (Read Untouched : Type 0) (Left : List ℕ → Type 0) (Empty Unasked : Type 0) (holds : W → List ℕ → Type 0) (g s : Shown) (o : Option Job) (job : Job) (n : ℕ) (out_was out_now : W) (graph_was graph_now : G) (scratch_was scratch_now : S) (e : Ending) where
+  pub ended_generated : o ≡ Some job → job.generate ≡ Some n → Made (generated job.seed n) → Unasked
+      → HasEnded Made Read Untouched holds g s (due_of_job job) (output_of job) out_was out_now graph_was graph_now scratch_was scratch_now e
+      → HasEnded (λ l. IsTrue (reads_if o) → Left l) (IsTrue (reads_if o) → Empty) Unasked holds g s (due_if o) (output_if o) out_was out_now graph_was graph_now scratch_was scratch_now e
+  ended_generated is some made unasked h =
+      let here : (l : List ℕ) → text_for job l ≡ generated job.seed n = λ l. ap (λ (x : Option ℕ). text_read x job.seed l) some in
+      let no : reads_if o ≡ false = reads_named o job is ∙ ap (λ (x : Option ℕ). not (is_some x)) some in
+      ended_by Made (λ l. IsTrue (reads_if o) → Left l) Read (IsTrue (reads_if o) → Empty) Untouched Unasked holds g s (due_of_job job) (due_if o) (output_of job) (output_if o) (λ l. generated job.seed n) out_was out_now graph_was graph_now scratch_was scratch_now e
+      (λ l. due_named o job is l ∙ ap (due_of_job job) (here l)) (λ l. output_named o job is l ∙ ap (output_of job) (here l)) (λ l x. made) (λ x r. absurd (cc (sym no ∙ r))) (λ x. unasked) h
+
+-- a count that is always 0 did not rise
+counts_made : (b : Bool) (m m' r r' : ℕ) → m ≡ 0 → m' ≡ 0 → r' ≡ r → Counts b m m' → Counts b r r'
+counts_made true m m' r r' none none' same rose = absurd (not-suc-le-zero (subst (λ x. Rose 0 x) none' (subst (λ x. Rose x m') none rose)))
+counts_made false m m' r r' none none' same is = same
+
+-- a source that never fails stands for one that is not asked
+pub faults_made : (status m m' r r' w w' g g' s s' : ℕ) → m ≡ 0 → m' ≡ 0 → r' ≡ r → HasFaults status m m' w w' g g' s s' → HasFaults status r r' w w' g g' s s'
+faults_made status m m' r r' w w' g g' s s' none none' same f = record { source = counts_made (status == 8) m m' r r' none none' same f.source; sink = f.sink; graph = f.graph; scratch = f.scratch }
+
+-- the states of words that name a job
+pub states_named : (o : Option Job) (job : Job) → o ≡ Some job → (l : List ℕ) → states_if o l ≡ states_of job (text_for job l)
+states_named o job is l = ap (λ x. states_if x l) is
+
+-- they ask for statistics where the job does
+pub notes_named : (o : Option Job) (job : Job) → o ≡ Some job → notes_if o ≡ job.stats
+notes_named o job is = ap notes_if is
+
+pub reads_when : (o : Option Job) (job : Job) → o ≡ Some job → job.generate ≡ None → IsTrue (reads_if o)
+reads_when o job is none = reads_named o job is ∙ ap (λ (x : Option ℕ). not (is_some x)) none

@@ -1,5 +1,2 @@
 pub mod Ended
 pub mod Statuses
-pub mod WordsJob
-pub mod WordsNumber
-pub mod WordsTable

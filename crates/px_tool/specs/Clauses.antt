@@ -1,11 +1,12 @@
 -- What the clauses of a run speak of.
 use Rattle.std.specs.Prelude.{◌≡◌, ◌⊎◌, ℕ, ◌||◌, ◌==◌, nat_lt, if◌then◌else◌, true, IsTrue, List, [], ◌++◌, take}
-use Rattle.px_core.specs.Counts.{Rose}
 use Rattle.px_core.specs.Shown.{Shown}
 use Rattle.px_load.specs.Stops.{Counts}
+use Rattle.px_meaning.specs.Step.{State}
+use Rattle.px_superstep.specs.Lines.{Grew, TellsLast}
 use Rattle.px_superstep.specs.declared.plan.End.TheVariants.{Done, Memory, Graph, Scratch, Source, Sink}
 use Rattle.px_tool.specs.Due.{Due}
-use Rattle.px_tool.specs.Endings.{ending_of, line_of, line_of_end, status_of, text_owed}
+use Rattle.px_tool.specs.Endings.{ending_of, line_of, line_of_end, status_of}
 use Rattle.px_tool.specs.declared.ending.Ending.{Ending}
 use Rattle.px_tool.specs.declared.ending.Ending.TheVariants.{Ran}
 
@@ -52,22 +53,27 @@ pub record HasFaults (status r r' w w' g g' s s' : ℕ) : Type 0 where
   pub graph : Counts (status == 6) g g'
   pub scratch : Counts (status == 7) s s'
 
--- a run that owes this to each text ended so. `left` and `holds` are what source and sink tell, and `was` and `now` the devices before and after
-pub record HasEnded {R W G S : Type 0} (left : R → List ℕ → Type 0) (holds : W → List ℕ → Type 0) (g s : Shown) (due : List ℕ → Due) (source_was source_now : R) (out_was out_now : W) (graph_was graph_now : G) (scratch_was scratch_now : S) (e : Ending) : Type 0 where
-  pub owed : IsDecided (status_of e) → (l : List ℕ) → (RestsOnText (status_of e) → left source_was l) → (RestsOnDisks (status_of e) → DisksTell g s) → ending_of (due l) ≡ e
-  pub short : (l : List ℕ) → status_of (ending_of (due l)) ≡ 11 → status_of e ≡ 11
-  pub sink : status_of e ≡ 9 → (l : List ℕ) → left source_was l → DisksTell g s → ending_of (due l) ≡ Ran Done
-  pub text : status_of e ≡ 0 → (l h : List ℕ) → left source_was l → DisksTell g s → holds out_was h → holds out_now (h ++ text_owed (due l))
-  pub part : IsCut (status_of e) → (l h : List ℕ) → left source_was l → DisksTell g s → holds out_was h → (n : ℕ) × holds out_now (h ++ take n (text_owed (due l)))
+-- it is want of frames, or memory was wanting before frames were counted
+abbrev pub IsShort : ℕ → Type 0
+IsShort n = (n ≡ 11) ⊎ (n ≡ 10)
+
+-- a run that owes this to each text ended so, and this is what it writes of each. `Left` is what the source tells of the text, `Read` that nothing is left of it and `Untouched` that it was not asked.
+-- `holds` is what the sink tells, and `was` and `now` are the devices before and after
+pub record HasEnded {W G S : Type 0} (Left : List ℕ → Type 0) (Read Untouched : Type 0) (holds : W → List ℕ → Type 0) (g s : Shown) (due : List ℕ → Due) (output : List ℕ → List ℕ) (out_was out_now : W) (graph_was graph_now : G) (scratch_was scratch_now : S) (e : Ending) : Type 0 where
+  pub owed : IsDecided (status_of e) → (l : List ℕ) → (RestsOnText (status_of e) → Left l) → (RestsOnDisks (status_of e) → DisksTell g s) → ending_of (due l) ≡ e
+  pub short : (l : List ℕ) → status_of (ending_of (due l)) ≡ 11 → IsShort (status_of e)
+  pub sink : status_of e ≡ 9 → (l : List ℕ) → Left l → DisksTell g s → ending_of (due l) ≡ Ran Done
+  pub text : status_of e ≡ 0 → (l h : List ℕ) → Left l → DisksTell g s → holds out_was h → holds out_now (h ++ output l)
+  pub part : IsCut (status_of e) → (l h : List ℕ) → Left l → DisksTell g s → holds out_was h → (n : ℕ) × holds out_now (h ++ take n (output l))
   pub unwritten : IsUnwritten (status_of e) → out_now ≡ out_was
-  pub read : IsAfterInput (status_of e) → (l : List ℕ) → left source_was l → left source_now []
-  pub source : IsUnasked (status_of e) → source_now ≡ source_was
+  pub read : IsAfterInput (status_of e) → (l : List ℕ) → Left l → Read
+  pub source : IsUnasked (status_of e) → Untouched
   pub graph : IsUnasked (status_of e) → graph_now ≡ graph_was
   pub scratch : IsUnasked (status_of e) → scratch_now ≡ scratch_was
 
--- a sink holds one list more and has not failed, or a prefix of that list where its count of faults rose
-abbrev pub Grew : (List ℕ → Type 0) → ℕ → ℕ → List ℕ → List ℕ → Type 0
-Grew holds was now before more = (holds (before ++ more) × (now ≡ was)) ⊎ (((n : ℕ) × holds (before ++ take n more)) × Rose was now)
+-- the lines of statistics of the last of these states were written behind this text, or a prefix of them where the sink failed
+abbrev pub HasStats : List State → (List ℕ → Type 0) → ℕ → ℕ → List ℕ → Type 0
+HasStats states holds was now before = (t : List ℕ) × TellsLast states t × Grew holds was now before t
 
 -- the line on the error sink of a run that ends with this status, where this is owed
 abbrev pub line_owed : ℕ → Due → List ℕ

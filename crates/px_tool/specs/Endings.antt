@@ -31,19 +31,6 @@ ending_of DueUsage = Usage
 ending_of (DueShort need have) = Ran (Short need have)
 ending_of (DueOf due) = Ran (end_of due)
 
--- the text that a program's run owes, where it halts
-abbrev pub text_of_due : owed.Due → List ℕ
-text_of_due (owed.DueBad line kind) = []
-text_of_due (owed.DueTwice v) = []
-text_of_due (owed.DueBeyond s) = []
-text_of_due (owed.DueLimit n) = []
-text_of_due (owed.DueText text) = text
-
-abbrev pub text_owed : Due → List ℕ
-text_owed DueUsage = []
-text_owed (DueShort need have) = []
-text_owed (DueOf due) = text_of_due due
-
 abbrev pub status_of_end : End → ℕ
 status_of_end Done = 0
 status_of_end (Bad line kind) = 2

@@ -3,12 +3,12 @@
 
 mod ending;
 mod run;
-mod words;
 mod work;
 
 ghost use Rattle.std.specs.Prelude.{◌≡◌, ℕ, List, IfOk};
 ghost use Rattle.px_superstep.specs.declared.plan.End.TheVariants.{Memory};
-ghost use Rattle.px_tool.specs.Clauses.{Grew, IsStatus};
+ghost use Rattle.px_superstep.specs.Lines.{Grew};
+ghost use Rattle.px_tool.specs.Clauses.{IsStatus};
 ghost use Rattle.px_tool.specs.Endings.{line_of_end};
 
 use crate::ending::Ending;

@@ -209,16 +209,26 @@ const LARGEST: &str = "0 18446744073709551615\n18446744073709551615 0\n";
 const LARGEST_REACHED: &str =
     "0 1 18446744073709551615:1\n18446744073709551615 1 0:1\n#superstep 3 aggregate 0 vertices 2\n";
 
-const LEAST: &str = "--program reach --from 1 --partitions 2 --frames 26 --frame-bytes 256";
+const SMALL_CHAINS: &str = "--program chains --frame-bytes 256";
 
-// How many calls of each disk there are in that run.
-const GRAPH_CALLS: u64 = 3;
+const PATH: &str = "1 2\n2 3\n3\n";
 
-const SCRATCH_CALLS: u64 = 71;
+const PATH_JOINED: &str = "1 1+2+3\n#superstep 6 aggregate 1 vertices 1\n";
+
+// How many calls of each device there are in that run.
+const SOURCE_CALLS: u64 = 2;
+
+const SINK_CALLS: u64 = 1;
+
+const GRAPH_CALLS: u64 = 5;
+
+const SCRATCH_CALLS: u64 = 266;
 
 const SMALL_REACH: &str = "--program reach --from 1 --frame-bytes 256";
 
 const SMALL_SSSP: &str = "--program sssp --from 1 --frame-bytes 256";
+
+const SMALL_REVERSE: &str = "--program reverse --frame-bytes 256";
 
 const STAR: &str = "1 2 3 4 5 6 7 8\n";
 
@@ -321,6 +331,63 @@ const CASES: &[Case] = &[
         PAIR,
         0,
         PAIR_LABELLED,
+        "",
+    ),
+    (WORKING, "--program chains", PATH, 0, PATH_JOINED, ""),
+    (
+        WORKING,
+        "--program chains",
+        "1 2\n2 1\n",
+        0,
+        "1 1 2:1\n2 2 1:1\n#superstep 2 aggregate 0 vertices 2\n",
+        "",
+    ),
+    (
+        WORKING,
+        "--program chains",
+        "1 2\n2 1\n3 1\n",
+        0,
+        "1 1+2 1:1\n3 3 1:1\n#superstep 5 aggregate 0 vertices 2\n",
+        "",
+    ),
+    (
+        WORKING,
+        "--program reverse",
+        "1 2:5 3\n2 3\n",
+        0,
+        "1 -\n2 - 1:5\n3 - 1:1 2:1\n#superstep 2 aggregate 3 vertices 3\n",
+        "",
+    ),
+    (
+        WORKING,
+        SMALL_REVERSE,
+        "1 9\n2 9\n3 9\n4 9\n5 9\n6 9\n7 9\n8 9\n",
+        4,
+        "",
+        "px: beyond the limits in superstep 2\n",
+    ),
+    (
+        WORKING,
+        SMALL_REVERSE,
+        "1 10\n2 10\n3 10\n4 10\n5 10\n6 10\n7 10\n8 10\n9 10\n",
+        4,
+        "",
+        "px: beyond the limits in superstep 1\n",
+    ),
+    (
+        WORKING,
+        "--program close",
+        "1 9 9\n2 1\n",
+        0,
+        "1 - 9:1 9:1\n2 - 1:1\n9 -\n#superstep 2 aggregate 1 vertices 3\n",
+        "",
+    ),
+    (
+        WORKING,
+        "--program prune",
+        "1 2\n2\n3\n",
+        0,
+        "1 - 2:1\n2 -\n#superstep 2 aggregate 0 vertices 2\n",
         "",
     ),
     (WORKING, SMALL_REACH, STAR, 0, STAR_REACHED, ""),
@@ -477,47 +544,125 @@ fn any_turns(rt: HostRuntime) -> Result<(), Fail> {
     Ok(())
 }
 
-// Whether a run in the least frames wrote all, or else it ended with this status and line and wrote a prefix.
-fn is_whole(
-    rt: &impl Abort,
-    alloc: Global,
-    setting: Setting,
-    status: u8,
-    line: &str,
-) -> Result<bool, Fail> {
-    let run = run(alloc, setting, LEAST, FOUR, &mut HighTurns::new())?;
-    if run.status == 0 {
+// The input is not read where the graph is generated, and the last line is all that is written.
+#[test]
+fn generated_graph(rt: HostRuntime) -> Result<(), Fail> {
+    let words = "--program components --generate 10 --seed 7";
+    let run = run(rt.alloc(), FIRST_READ, words, "x", &mut HighTurns::new())?;
+    assert_eq!(rt; run.status, 0);
+    assert_eq!(rt; run.source.calls, 0);
+    assert_eq!(rt;
+        run.out.bytes(),
+        b"#superstep 6 aggregate 0 vertices 10\n".as_slice()
+    );
+    assert!(rt; run.errs.bytes().is_empty());
+    Ok(())
+}
+
+// A run that halts says of each superstep what it led to; a failing error sink changes nothing.
+#[test]
+fn statistics(rt: HostRuntime) -> Result<(), Fail> {
+    let words = "--program reach --from 1 --stats yes";
+    for setting in [WORKING, MUTE] {
+        let run = run(rt.alloc(), setting, words, FOUR, &mut HighTurns::new())?;
+        assert_eq!(rt; run.status, 0);
         assert_eq!(rt; run.out.bytes(), FOUR_REACHED.as_bytes());
-        return Ok(true);
+        let first = b"superstep 1 count 4 live 0 messages 1 graph ";
+        assert_eq!(rt;
+            run.errs.bytes().starts_with(first),
+            setting.errs.is_empty()
+        );
+    }
+    let late = "--program reach --from 1 --stats yes --max-supersteps 2";
+    let run = run(rt.alloc(), WORKING, late, FOUR, &mut HighTurns::new())?;
+    assert_eq!(rt;
+        run.errs.bytes(),
+        b"px: not halted after 2 supersteps\n".as_slice()
+    );
+    Ok(())
+}
+
+/// The devices that may fail in the middle of a run.
+#[derive(Clone, Copy)]
+enum Device {
+    Source,
+    Sink,
+    Graph,
+    Scratch,
+}
+
+impl Device {
+    // All work but this one, which fails at these calls.
+    fn failing_at(self, calls: &[u64]) -> Setting<'_> {
+        match self {
+            Device::Source => Setting {
+                source: calls,
+                ..WORKING
+            },
+            Device::Sink => Setting {
+                out: calls,
+                ..WORKING
+            },
+            Device::Graph => Setting {
+                graph: calls,
+                ..WORKING
+            },
+            Device::Scratch => Setting {
+                scratch: calls,
+                ..WORKING
+            },
+        }
+    }
+
+    // The status and the line of a run in which it fails, and how often it is called in the run that is tried.
+    fn failure(self) -> (u8, &'static str, u64) {
+        match self {
+            Device::Source => (8, "px: input failed\n", SOURCE_CALLS),
+            Device::Sink => (9, "px: output failed\n", SINK_CALLS),
+            Device::Graph => (6, "px: graph disk failed\n", GRAPH_CALLS),
+            Device::Scratch => (7, "px: scratch disk failed\n", SCRATCH_CALLS),
+        }
+    }
+}
+
+// A run in which this call of the device fails: it writes a prefix and says so, or all where there is no such call.
+fn assert_fails(rt: &impl Abort, alloc: Global, device: Device, call: u64) -> Result<(), Fail> {
+    let calls = [call];
+    let setting = device.failing_at(&calls);
+    let run = run(alloc, setting, SMALL_CHAINS, PATH, &mut HighTurns::new())?;
+    let (status, line, most) = device.failure();
+    if call > most {
+        assert_eq!(rt; run.status, 0);
+        assert_eq!(rt; run.out.bytes(), PATH_JOINED.as_bytes());
+        return Ok(());
     }
     assert_eq!(rt; run.status, status);
-    assert!(rt; FOUR_REACHED.as_bytes().starts_with(run.out.bytes()));
     assert_eq!(rt; run.errs.bytes(), line.as_bytes());
-    Ok(false)
+    assert!(rt; PATH_JOINED.as_bytes().starts_with(run.out.bytes()));
+    Ok(())
+}
+
+// The same for each call in turn.
+fn assert_fails_in_turn(rt: &impl Abort, alloc: Global, device: Device) -> Result<(), Fail> {
+    let (_, _, most) = device.failure();
+    for call in 1..=most + 1 {
+        assert_fails(rt, alloc, device, call)?;
+    }
+    Ok(())
+}
+
+#[test]
+fn each_call_of_the_source_and_the_sink_fails_in_turn(rt: HostRuntime) -> Result<(), Fail> {
+    assert_fails_in_turn(&rt, rt.alloc(), Device::Source)?;
+    assert_fails_in_turn(&rt, rt.alloc(), Device::Sink)
 }
 
 #[test]
 fn each_call_of_the_graph_disk_fails_in_turn(rt: HostRuntime) -> Result<(), Fail> {
-    for call in 1..=GRAPH_CALLS + 1 {
-        let setting = Setting {
-            graph: &[call],
-            ..WORKING
-        };
-        let whole = is_whole(&rt, rt.alloc(), setting, 6, "px: graph disk failed\n")?;
-        assert_eq!(rt; whole, call > GRAPH_CALLS);
-    }
-    Ok(())
+    assert_fails_in_turn(&rt, rt.alloc(), Device::Graph)
 }
 
 #[test]
 fn each_call_of_the_scratch_disk_fails_in_turn(rt: HostRuntime) -> Result<(), Fail> {
-    for call in 1..=SCRATCH_CALLS + 1 {
-        let setting = Setting {
-            scratch: &[call],
-            ..WORKING
-        };
-        let whole = is_whole(&rt, rt.alloc(), setting, 7, "px: scratch disk failed\n")?;
-        assert_eq!(rt; whole, call > SCRATCH_CALLS);
-    }
-    Ok(())
+    assert_fails_in_turn(&rt, rt.alloc(), Device::Scratch)
 }

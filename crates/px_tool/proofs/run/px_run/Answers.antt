@@ -1,6 +1,7 @@
-use Rattle.std.proofs.Common.{◌≡◌, List, ℕ, ap, subst, sym, ◌∙◌}
-use Rattle.px_tool.specs.Clauses.{Grew, IsStatus, RestsOnDisks, RestsOnText, line_owed}
-use Rattle.px_tool.specs.Due.{due, words_of}
+use Rattle.std.proofs.Common.{◌≡◌, List, ℕ, ap, subst, sym, ◌∙◌, inl, inr}
+use Rattle.px_superstep.specs.Lines.{Grew}
+use Rattle.px_tool.specs.Clauses.{HasStats, IsStatus, RestsOnDisks, RestsOnText, line_owed}
+use Rattle.px_tool.specs.Due.{due, states, words_of}
 use Rattle.px_tool.specs.Endings.{line_of, status_of}
 use Rattle.px_tool.proofs.Statuses.{is_status, is_usage, is_done, line_is, rises, stays, decided_of}
 use Rattle.px_tool.proofs.run.px_run.Goals as goal
@@ -13,11 +14,17 @@ returns-clause-status g c = rw c.status.ensures (λ decided l said told. sym (ap
 
 pub returns-clause-usage : goal.returns-clause-usage
 returns-clause-usage g c =
-    let usage = c.run_words-ending.ensures.usage in
-    (λ is. usage.0 (is_usage c.run_words-ending.result (sym c.status.ensures ∙ is)), λ none. c.status.ensures ∙ ap status_of (usage.1 none))
+    λ is. c.run_words-ending.ensures.usage (is_usage c.run_words-ending.result (sym c.status.ensures ∙ is))
+
+pub returns-clause-refused : goal.returns-clause-refused
+returns-clause-refused g c = λ none.
+    elim (c.run_words-ending.ensures.refused none) [
+      | inl usage ↦ inl (c.status.ensures ∙ ap status_of usage)
+      | inr memory ↦ inr (c.status.ensures ∙ ap status_of memory)
+    ]
 
 pub returns-clause-short : goal.returns-clause-short
-returns-clause-short g c = λ l is. c.status.ensures ∙ c.run_words-ending.ensures.ended.short l is
+returns-clause-short g c = rw c.status.ensures c.run_words-ending.ensures.ended.short
 
 pub returns-clause-complete : goal.returns-clause-complete
 returns-clause-complete g c = λ no_source no_sink no_graph no_scratch memory l left tell.
@@ -62,7 +69,10 @@ pub returns-clause-sink_owed : goal.returns-clause-sink_owed
 returns-clause-sink_owed g c = rw c.status.ensures (λ is l left tell. ap status_of (c.run_words-ending.ensures.ended.sink is l left tell))
 
 pub returns-clause-read : goal.returns-clause-read
-returns-clause-read g c = rw c.status.ensures c.run_words-ending.ensures.ended.read
+returns-clause-read g c = rw c.status.ensures (λ after reads l left. c.run_words-ending.ensures.ended.read after l (λ r. left) reads)
+
+pub returns-clause-unread : goal.returns-clause-unread
+returns-clause-unread g c = c.run_words-ending.ensures.unread
 
 pub returns-clause-unasked : goal.returns-clause-unasked
 returns-clause-unasked g c = rw c.status.ensures c.run_words-ending.ensures.ended.source
@@ -74,7 +84,14 @@ pub returns-clause-unasked_scratch : goal.returns-clause-unasked_scratch
 returns-clause-unasked_scratch g c = rw c.status.ensures c.run_words-ending.ensures.ended.scratch
 
 pub returns-clause-quiet : goal.returns-clause-quiet
-returns-clause-quiet g c = λ is. c.report.ensures.quiet (is_done c.run_words-ending.result (sym c.status.ensures ∙ is)) ∙ c.run_words-ending.ensures.errs
+returns-clause-quiet g c = λ is none. c.report.ensures.quiet (is_done c.run_words-ending.result (sym c.status.ensures ∙ is)) ∙ c.run_words-ending.ensures.quiet none
+
+pub returns-clause-stats : goal.returns-clause-stats
+returns-clause-stats g c = λ is asked l e left tell held.
+    let done = is_done c.run_words-ending.result (sym c.status.ensures ∙ is) in
+    let of = states (words_of c.args.words.now) l in
+    subst (λ x. HasStats of (g.E.Sink.holds x) (g.E.Sink.faults c.args.errs.now) (g.E.Sink.faults x) e) (sym (c.report.ensures.quiet done))
+    (c.run_words-ending.ensures.stats done asked l e left tell held)
 
 pub returns-clause-line : goal.returns-clause-line
 returns-clause-line g c = λ not l e said told held.
@@ -83,5 +100,5 @@ returns-clause-line g c = λ not l e said told held.
     let line : line_owed c.status.result of_end ≡ line_of end.result =
     ap (λ n. line_owed n of_end) c.status.ensures
     ∙ line_is end.result of_end (λ decided. end.ensures.ended.owed decided l (λ rests. said (subst RestsOnText (sym c.status.ensures) rests)) (λ rests. told (subst RestsOnDisks (sym c.status.ensures) rests))) in
-    let grew = subst (λ x. (h : List ℕ) → g.E.Sink.holds x h → Grew (g.E.Sink.holds c.report.new.errs) (g.E.Sink.faults x) (g.E.Sink.faults c.report.new.errs) h (line_of end.result)) end.ensures.errs (c.report.ensures.line (λ is. not (c.status.ensures ∙ ap status_of is))) in
+    let grew = subst (λ x. (h : List ℕ) → g.E.Sink.holds x h → Grew (g.E.Sink.holds c.report.new.errs) (g.E.Sink.faults x) (g.E.Sink.faults c.report.new.errs) h (line_of end.result)) (end.ensures.quiet_end (λ done. not (c.status.ensures ∙ ap status_of done))) (c.report.ensures.line (λ is. not (c.status.ensures ∙ ap status_of is))) in
     rw line (grew e held)
