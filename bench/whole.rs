@@ -12,16 +12,16 @@ const WHOLE: u64 = 1_000_000_000_000;
 const RESTART: u64 = 150_000_000_000;
 
 /// A vertex, and the merge of the messages that came to it.
-struct Vertex {
+struct Vertex<M> {
     vid: u64,
     halt: bool,
     value: Option<u64>,
     edges: Vec<(u64, u32)>,
-    inbox: Option<u64>,
+    inbox: Option<M>,
 }
 
-impl Vertex {
-    fn new(vid: u64, edges: Vec<(u64, u32)>) -> Vertex {
+impl<M> Vertex<M> {
+    fn new(vid: u64, edges: Vec<(u64, u32)>) -> Vertex<M> {
         Vertex {
             vid,
             halt: false,
@@ -38,16 +38,28 @@ struct At {
     count: u64,
 }
 
-/// What a superstep sends and contributes.
-#[derive(Default)]
-struct Outbox {
-    messages: Vec<(u64, u64)>,
+/// What a superstep sends and contributes, and the vertices that it removes.
+struct Outbox<M> {
+    messages: Vec<(u64, M)>,
+    removed: Vec<u64>,
     contributed: u64,
 }
 
-impl Outbox {
-    fn send(&mut self, to: u64, message: u64) {
+impl<M> Outbox<M> {
+    fn new() -> Outbox<M> {
+        Outbox {
+            messages: Vec::new(),
+            removed: Vec::new(),
+            contributed: 0,
+        }
+    }
+
+    fn send(&mut self, to: u64, message: M) {
         self.messages.push((to, message));
+    }
+
+    fn remove(&mut self, vid: u64) {
+        self.removed.push(vid);
     }
 
     fn contribute(&mut self, n: u64) {
@@ -56,11 +68,11 @@ impl Outbox {
 }
 
 trait Program {
-    fn compute(&self, at: &At, vertex: &mut Vertex, message: Option<u64>, out: &mut Outbox);
+    type Message;
 
-    fn merge(a: u64, b: u64) -> u64 {
-        a.min(b)
-    }
+    fn compute(&self, at: &At, vertex: &mut Vertex<Self::Message>, message: Option<Self::Message>, out: &mut Outbox<Self::Message>);
+
+    fn merge(into: &mut Self::Message, message: Self::Message);
 
     fn print(value: u64, to: &mut dyn Write) -> io::Result<()> {
         write!(to, "{value}")
@@ -81,8 +93,14 @@ struct PageRank {
     rounds: u64,
 }
 
+struct Reverse;
+
+struct Prune;
+
 impl Program for Reach {
-    fn compute(&self, at: &At, vertex: &mut Vertex, message: Option<u64>, out: &mut Outbox) {
+    type Message = ();
+
+    fn compute(&self, at: &At, vertex: &mut Vertex<()>, message: Option<()>, out: &mut Outbox<()>) {
         vertex.halt = true;
         let is_first = at.superstep == 0 && vertex.vid == self.from;
         let is_reached = at.superstep > 0 && message.is_some() && vertex.value != Some(1);
@@ -90,16 +108,20 @@ impl Program for Reach {
             vertex.value = Some(1);
             out.contribute(1);
             for edge in &vertex.edges {
-                out.send(edge.0, 0);
+                out.send(edge.0, ());
             }
         } else if at.superstep == 0 {
             vertex.value = Some(0);
         }
     }
+
+    fn merge(_: &mut (), _: ()) {}
 }
 
 impl Program for Sssp {
-    fn compute(&self, at: &At, vertex: &mut Vertex, message: Option<u64>, out: &mut Outbox) {
+    type Message = u64;
+
+    fn compute(&self, at: &At, vertex: &mut Vertex<u64>, message: Option<u64>, out: &mut Outbox<u64>) {
         vertex.halt = true;
         let least = vertex.value.unwrap_or(u64::MAX);
         let found = match message {
@@ -116,6 +138,10 @@ impl Program for Sssp {
         }
     }
 
+    fn merge(into: &mut u64, message: u64) {
+        *into = message.min(*into);
+    }
+
     fn print(value: u64, to: &mut dyn Write) -> io::Result<()> {
         if value == u64::MAX {
             to.write_all(b"inf")
@@ -126,7 +152,9 @@ impl Program for Sssp {
 }
 
 impl Program for Components {
-    fn compute(&self, at: &At, vertex: &mut Vertex, message: Option<u64>, out: &mut Outbox) {
+    type Message = u64;
+
+    fn compute(&self, at: &At, vertex: &mut Vertex<u64>, message: Option<u64>, out: &mut Outbox<u64>) {
         vertex.halt = true;
         let found = match (message, vertex.value) {
             _ if at.superstep == 0 => vertex.vid,
@@ -140,10 +168,16 @@ impl Program for Components {
             out.send(edge.0, found);
         }
     }
+
+    fn merge(into: &mut u64, message: u64) {
+        *into = message.min(*into);
+    }
 }
 
 impl Program for PageRank {
-    fn compute(&self, at: &At, vertex: &mut Vertex, message: Option<u64>, out: &mut Outbox) {
+    type Message = u64;
+
+    fn compute(&self, at: &At, vertex: &mut Vertex<u64>, message: Option<u64>, out: &mut Outbox<u64>) {
         vertex.halt = at.superstep >= self.rounds;
         let count = at.count.max(1);
         let rank = if at.superstep == 0 {
@@ -165,32 +199,87 @@ impl Program for PageRank {
         }
     }
 
-    fn merge(a: u64, b: u64) -> u64 {
-        a.saturating_add(b)
+    fn merge(into: &mut u64, message: u64) {
+        *into = message.saturating_add(*into);
     }
 }
 
+impl Program for Reverse {
+    type Message = Vec<(u64, u32)>;
+
+    fn compute(&self, at: &At, vertex: &mut Vertex<Self::Message>, message: Option<Self::Message>, out: &mut Outbox<Self::Message>) {
+        vertex.halt = true;
+        if at.superstep == 0 {
+            for edge in vertex.edges.drain(..) {
+                out.send(edge.0, vec![(vertex.vid, edge.1)]);
+            }
+        } else if let Some(mut entries) = message {
+            entries.sort_unstable();
+            out.contribute(entries.len() as u64);
+            vertex.edges = entries;
+        }
+    }
+
+    fn merge(into: &mut Self::Message, message: Self::Message) {
+        into.extend(message);
+    }
+}
+
+impl Program for Prune {
+    type Message = ();
+
+    fn compute(&self, at: &At, vertex: &mut Vertex<()>, _: Option<()>, out: &mut Outbox<()>) {
+        vertex.halt = true;
+        if at.superstep > 0 {
+            return;
+        }
+        if vertex.edges.is_empty() {
+            out.remove(vertex.vid);
+            out.contribute(1);
+        }
+        for edge in &vertex.edges {
+            out.send(edge.0, ());
+        }
+    }
+
+    fn merge(_: &mut (), _: ()) {}
+}
+
 /// The vertices, and the place of each vid.
-struct Graph {
-    vertices: Vec<Vertex>,
+struct Graph<M> {
+    vertices: Vec<Vertex<M>>,
     places: HashMap<u64, usize>,
 }
 
-impl Graph {
-    fn of(vertices: Vec<Vertex>) -> Graph {
+impl<M> Graph<M> {
+    fn of(vertices: Vec<Vertex<M>>) -> Graph<M> {
         let places = vertices.iter().enumerate().map(|(i, v)| (v.vid, i)).collect();
         Graph { vertices, places }
     }
 
+    fn remove(&mut self, vids: impl Iterator<Item = u64>) {
+        for vid in vids {
+            let Some(place) = self.places.remove(&vid) else {
+                continue;
+            };
+            self.vertices.swap_remove(place);
+            if let Some(moved) = self.vertices.get(place) {
+                self.places.insert(moved.vid, place);
+            }
+        }
+    }
+
     // A vid without a vertex gets one.
-    fn deliver<P: Program>(&mut self, messages: &[(u64, u64)]) {
-        for &(to, message) in messages {
+    fn deliver<P: Program<Message = M>>(&mut self, messages: impl Iterator<Item = (u64, M)>) {
+        for (to, message) in messages {
             let place = *self.places.entry(to).or_insert_with(|| {
                 self.vertices.push(Vertex::new(to, Vec::new()));
                 self.vertices.len() - 1
             });
-            let inbox = &mut self.vertices[place].inbox;
-            *inbox = Some(inbox.map_or(message, |sum| P::merge(sum, message)));
+            match &mut self.vertices[place].inbox {
+                Some(sum) => P::merge(sum, message),
+                inbox => *inbox = Some(message),
+            }
         }
     }
 }
@@ -201,16 +290,16 @@ struct Outcome {
     aggregate: u64,
 }
 
-fn run<P: Program>(program: &P, graph: &mut Graph) -> Outcome {
+fn run<P: Program>(program: &P, graph: &mut Graph<P::Message>) -> Outcome {
     let mut outcome = Outcome {
         supersteps: 0,
         aggregate: 0,
     };
     // A vertex that a message made is counted from the superstep after that on.
     let mut count = graph.vertices.len() as u64;
-    let mut out = Outbox::default();
+    let mut out = Outbox::new();
     loop {
-        let is_active = |v: &Vertex| !v.halt || v.inbox.is_some();
+        let is_active = |v: &Vertex<P::Message>| !v.halt || v.inbox.is_some();
         if !graph.vertices.iter().any(is_active) {
             return outcome;
         }
@@ -218,20 +307,20 @@ fn run<P: Program>(program: &P, graph: &mut Graph) -> Outcome {
             superstep: outcome.supersteps,
             count,
         };
-        out.messages.clear();
         out.contributed = 0;
         for vertex in graph.vertices.iter_mut().filter(|v| is_active(v)) {
             let message = vertex.inbox.take();
             program.compute(&at, vertex, message, &mut out);
         }
+        graph.remove(out.removed.drain(..));
         count = graph.vertices.len() as u64;
-        graph.deliver::<P>(&out.messages);
+        graph.deliver::<P>(out.messages.drain(..));
         outcome.supersteps += 1;
         outcome.aggregate = out.contributed;
     }
 }
 
-fn write_text<P: Program>(graph: &mut Graph, outcome: &Outcome) -> io::Result<()> {
+fn write_text<P: Program>(graph: &mut Graph<P::Message>, outcome: &Outcome) -> io::Result<()> {
     let mut to = BufWriter::with_capacity(CHUNK, io::stdout().lock());
     graph.vertices.sort_unstable_by_key(|v| v.vid);
     for vertex in &graph.vertices {
@@ -259,7 +348,7 @@ fn edge_of(field: &str) -> Option<(u64, u32)> {
 }
 
 // None for a line without a vertex.
-fn vertex_of(line: &str) -> Option<Result<Vertex, Box<dyn Error>>> {
+fn vertex_of<M>(line: &str) -> Option<Result<Vertex<M>, Box<dyn Error>>> {
     let mut fields = line.split_ascii_whitespace();
     let vid = fields.next().filter(|field| !field.starts_with('#'))?;
     let vertex = vid.parse().ok().and_then(|vid| {
@@ -290,6 +379,8 @@ fn main() -> Result<(), Box<dyn Error>> {
         Some("sssp") => answer(&Sssp { from: number_of("--from")? }),
         Some("components") => answer(&Components),
         Some("pagerank") => answer(&PageRank { rounds: number_of("--rounds")? }),
-        _ => Err("usage: whole --program reach|sssp|components|pagerank [--from V] [--rounds K]".into()),
+        Some("reverse") => answer(&Reverse),
+        Some("prune") => answer(&Prune),
+        _ => Err("usage: whole --program reach|sssp|components|pagerank|reverse|prune [--from V] [--rounds K]".into()),
     }
 }

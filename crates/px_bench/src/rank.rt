@@ -1,18 +1,20 @@
 // Vertices are loaded from their records, compute a superstep of pagerank, and are stored again.
-ghost use Rattle.std.specs.Prelude.{◌≡◌, [], true, false};
-ghost use Rattle.px_program.specs.NoVerdict.{no_verdict_rule};
+ghost use Rattle.std.specs.Prelude.{◌≡◌, ◌+◌, [], true, false};
 ghost use Rattle.px_program.specs.Numbers.{sum_rule};
+ghost use Rattle.px_program.specs.Posted.{gathered, pieces_in};
 ghost use Rattle.px_program.specs.Saturating.{saturating_sum};
+ghost use Rattle.px_verdict.specs.Verdict.{verdict_rule};
 
 use crate::record::record_of;
 use crate::tally::{Tally, number};
 use anyhow::{Result, bail};
 use byteorder::{BigEndian, ByteOrder};
 use px_core::{Stop, Vid};
+use px_frames::{Buf, Frame};
 use px_program::{At, Outbox, Program};
 use px_programs::PageRank;
 use px_record::VertexBuf;
-use std::alloc::Global;
+use std::alloc::{AllocError, Global};
 
 /// The bytes of a frame, and the most that a vertex or a message may have.
 const FRAME: u32 = 262_144;
@@ -23,22 +25,65 @@ const ROOM: u32 = FRAME / 2 - 16;
 #[derive(Drop)]
 struct Sums {
     sum: u64,
+    spare: Buf,
+    long: bool,
+
+    ghost is: { 13 + spare.limit ≡ 131056 },
+}
+
+impl Sums {
+    fn new(alloc: Global) -> Result<Sums, AllocError> {
+        Ok(Sums {
+            sum: 0,
+            spare: Buf::over(Frame::new(alloc, FRAME)?, ROOM - 13),
+            long: false,
+        })
+    }
+
+    // Lets all pieces go.
+    fn clear(&mut self)
+        ensures { pieces_in self.new.long self.new.spare.bytes ≡ gathered 131056 [] }
+    {
+        self.spare.clear();
+        self.long = false;
+    }
 }
 
 impl Outbox for Sums {
     ghost took = { λ o p. ⊥ };
 
-    ghost made_for = { λ o. record { message = sum_rule; verdict = no_verdict_rule; room = 131056; unit = 0; join = saturating_sum; lent = [] } };
+    ghost made_for = { λ o. record { message = sum_rule; verdict = verdict_rule; room = 131056; unit = 0; join = saturating_sum; lent = [] } };
 
     ghost faults = { λ o. 0 };
 
     ghost is_open = { λ o. true };
+
+    ghost pieces = { λ o. pieces_in o.long o.spare.bytes };
 
     fn send(&mut self, to: Vid, payload: &[u8]) -> Result<(), Stop> {
         if payload.len() > ROOM as usize - 13 {
             return Err(Stop::Beyond);
         }
         self.sum = self.sum.wrapping_add(to).wrapping_add(number(payload));
+        Ok(())
+    }
+
+    fn piece(&mut self, bytes: &[u8]) {
+        if !self.long {
+            self.long = self.spare.append(bytes).is_err();
+        }
+    }
+
+    fn send_pieces(&mut self, to: Vid) -> Result<(), Stop> {
+        let long = self.long;
+        self.sum = self
+            .sum
+            .wrapping_add(to)
+            .wrapping_add(number(self.spare.bytes()));
+        self.clear();
+        if long {
+            return Err(Stop::Beyond);
+        }
         Ok(())
     }
 
@@ -109,6 +154,7 @@ fn step(
     if !v.load(vid, body) {
         bail!("a record is no vertex");
     }
+    out.clear();
     PageRank::new(2).compute(at, v, Some(&message.to_be_bytes()), out)?;
     Ok(sum_of(v.body()))
 }
@@ -139,7 +185,7 @@ pub fn run(alloc: Global, records: &[u8], count: u64, rounds: u64) -> Result<Tal
         fresh: false,
     };
     let mut v = record_of(alloc, FRAME)?;
-    let mut out = Sums { sum: 0 };
+    let mut out = Sums::new(alloc)?;
     let mut tally = Tally::default();
     for number in 0..rounds {
         let ranked = round(&at, records, number, &mut v, &mut out)?;
