@@ -645,7 +645,7 @@ fn assert_fails(rt: &impl Abort, alloc: Global, device: Device, call: u64) -> Re
 // The same for each call in turn.
 fn assert_fails_in_turn(rt: &impl Abort, alloc: Global, device: Device) -> Result<(), Fail> {
     let (_, _, most) = device.failure();
-    for call in 1..=most + 1 {
+    for call in 1..=most.saturating_add(1) {
         assert_fails(rt, alloc, device, call)?;
     }
     Ok(())
