@@ -22,7 +22,7 @@ module _ {X : Type 0} (f : X → List ℕ) where
       let rest = flat_map f (drop (i + 1) xs) in
       let later = begins_later before front text rest ((before ++ front) ++ take part.0 text) (part.0, refl) in
       let all : flat_map f xs ≡ front ++ (text ++ rest) =
-          ap (flat_map f) (split_at xs i d low) ∙ flat_map-append f (take i xs) (get_or xs i d ∷ drop (i + 1) xs) ∙ ap (λ (l : List ℕ). front ++ (l ++ rest)) (sym is) in
+      ap (flat_map f) (split_at xs i d low) ∙ flat_map-append f (take i xs) (get_or xs i d ∷ drop (i + 1) xs) ∙ ap (λ (l : List ℕ). front ++ (l ++ rest)) (sym is) in
       (later.0, subst (λ (l : List ℕ). now (before ++ take later.0 l)) (sym all) (subst now later.1 part.1))
 
   module _ (xs ys zs : List X) (is : xs ++ ys ≡ zs) where

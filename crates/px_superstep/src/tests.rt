@@ -4,8 +4,8 @@ ghost use Rattle.px_btree.specs.Open.{OpenTreeView};
 ghost use Rattle.px_superstep.specs.Jobs.{IsJob};
 
 use crate::{
-    ConnectorKind, End, GroupKind, Job, JoinKind, Line, Plan, Setup, Shares, Stats, StoreKind, need, open_bank,
-    run_job, shares,
+    ConnectorKind, End, GroupKind, Job, JoinKind, Line, Plan, Setup, Shares, Stats, StoreKind,
+    need, open_bank, run_job, shares,
 };
 use px_btree::BTree;
 use px_connectors::{Connector, Partitioning};
@@ -341,10 +341,14 @@ fn the_last_64_lines_are_kept(rt: HostRuntime) -> Result<(), Fail> {
     stats.write(&mut errs)?;
     let mut superstep = 7u64;
     for line in errs.bytes().split(|b| *b == b'\n').take(64) {
-        let want = format!(in rt.alloc(); "superstep {superstep} count 3 live 2 messages 4 graph 5 6 scratch 7 8")?;
+        let want = format!(in rt.alloc();
+            "superstep {superstep} count 3 live 2 messages 4 graph 5 6 scratch 7 8"
+        )?;
         assert!(rt; line == want.as_bytes());
         superstep = superstep.saturating_add(1);
     }
-    assert!(rt; errs.bytes().ends_with(b"superstep 70 count 3 live 2 messages 4 graph 5 6 scratch 7 8\n"));
+    assert!(rt;
+        errs.bytes().ends_with(b"superstep 70 count 3 live 2 messages 4 graph 5 6 scratch 7 8\n")
+    );
     Ok(())
 }

@@ -42,11 +42,12 @@ pub returns-clause-enough : goal.returns-clause-enough
 returns-clause-enough g c = λ low need have is. c.run_opened-end.ensures.ends.started (subst IsUnread (sym is) tt)
 
 pub returns-clause-stats : goal.returns-clause-stats
-returns-clause-stats g c = λ done wanted bytes e left a b has.
-    (flat_map line_text c.run_opened-end.new.stats,
-    record {
-      lines = c.run_opened-end.new.stats;
-      of = lines_moved (g.P.Program.meaning c.args.program) (g.P.Program.meaning c.in-Ok.job.program) (room_of c.args.setup.now.frame_bytes) (room_of c.args.setup.now.frame_bytes) c.args.setup.now.max (graph_of bytes (room_of c.args.setup.now.frame_bytes) (2 ^ 48)) c.run_opened-end.new.stats c.in-Ok.ensures.program refl (c.run_opened-end.ensures.noted done bytes left a b);
-      is = refl;
-    },
-    c.report.ensures.written done wanted e has)
+returns-clause-stats g c = λ done wanted bytes e left a b has. (
+  flat_map line_text c.run_opened-end.new.stats,
+  record {
+    lines = c.run_opened-end.new.stats;
+    of = lines_moved (g.P.Program.meaning c.args.program) (g.P.Program.meaning c.in-Ok.job.program) (room_of c.args.setup.now.frame_bytes) (room_of c.args.setup.now.frame_bytes) c.args.setup.now.max (graph_of bytes (room_of c.args.setup.now.frame_bytes) (2 ^ 48)) c.run_opened-end.new.stats c.in-Ok.ensures.program refl (c.run_opened-end.ensures.noted done bytes left a b);
+    is = refl;
+  },
+  c.report.ensures.written done wanted e has,
+)

@@ -37,7 +37,7 @@ returns-then-is_still-clause-halted g c = λ s stands.
     let scratch = g.SD.Disk.shown c.loop.scratch in
     let has = c.loop.invariant.runs s stands in
     let end = run_halted p room c.args.most c.loop.counter s (λ st. JobStands p room g.J.Join.probing g.St.Store.holds graph scratch c.loop.job st × HasNoted p room c.args.most c.loop.counter s c.loop.stats st) has
-        (sym (c.is_still.ensures p room g.J.Join.probing graph scratch has.state has.stands.0) ∙ c.if-is_still.true) in
+    (sym (c.is_still.ensures p room g.J.Join.probing graph scratch has.state has.stands.0) ∙ c.if-is_still.true) in
     record { state = end.state; halted = end.halted; stands = end.stands.0 }
 
 pub returns-then-is_still-clause-noted : goal.returns-then-is_still-clause-noted
@@ -60,7 +60,7 @@ returns-then-is_still-2-clause-halted g c = λ s stands.
     let scratch = g.SD.Disk.shown c.loop.scratch in
     let has = c.loop.invariant.runs s stands in
     let end = run_halted p room c.args.most c.loop.counter s (λ st. JobStands p room g.J.Join.probing g.St.Store.holds graph scratch c.loop.job st × HasNoted p room c.args.most c.loop.counter s c.loop.stats st) has
-        (sym (c.is_still-2.ensures p room g.J.Join.probing graph scratch has.state has.stands.0) ∙ c.if-is_still-2.true) in
+    (sym (c.is_still-2.ensures p room g.J.Join.probing graph scratch has.state has.stands.0) ∙ c.if-is_still-2.true) in
     record { state = end.state; halted = end.halted; stands = end.stands.0 }
 
 pub returns-then-is_still-2-clause-noted : goal.returns-then-is_still-2-clause-noted
@@ -138,9 +138,15 @@ loop-preserved g c =
           (λ st here. (let n = c.in_ok-advance.ensures.stands st here.0 in
           let q = g.P.Program.meaning c.loop.job.program in
           let k = room_of c.loop.job.bank.frame_len in
-          let awake = sym (c.is_still.ensures q k g.J.Join.probing graph scratch st here.0) ∙ c.if-is_still.false in
-          (n.next, n.is, (n.stands, noted_next q k c.args.most c.loop.counter s c.loop.stats st here.1 low awake n.next n.is
-          (line_between next.gs (asked_of graph scratch) (asked_of graph_now scratch_now)) c.advance.new.stats c.in_ok-advance.ensures.noted (gs_is next.gs n.next n.stands.numbers)))));
+          let awake = sym (c.is_still.ensures q k g.J.Join.probing graph scratch st here.0) ∙ c.if-is_still.false in (
+            n.next,
+            n.is,
+            (
+              n.stands,
+              noted_next q k c.args.most c.loop.counter s c.loop.stats st here.1 low awake n.next n.is
+                  (line_between next.gs (asked_of graph scratch) (asked_of graph_now scratch_now)) c.advance.new.stats c.in_ok-advance.ensures.noted (gs_is next.gs n.next n.stands.numbers),
+            ),
+          )));
       job = c.in_ok-advance.ensures.job;
       number = omega (arith, c.in_ok-advance.ensures.number, c.loop.invariant.number);
       bank = c.advance.ensures.bank ∙ c.loop.invariant.bank;
