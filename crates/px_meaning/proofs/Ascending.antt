@@ -1,5 +1,5 @@
 -- Ascending lists of numbers: what `place` and `ascending` leave, and that the members decide such a list.
-use Rattle.std.proofs.Common.{◌≡◌, ℕ, zero, suc, ◌+◌, ◌<◌, List, [], ◌∷◌, ◌++◌, filter, Bool, true, false, ◌||◌, ◌==◌, nat_lt, Contains, IsPermutation, sym, ◌∙◌, ap, refl, arith, inl, inr}
+use Rattle.std.proofs.Common.{◌≡◌, ℕ, suc, ◌+◌, ◌<◌, List, [], ◌∷◌, ◌++◌, filter, Bool, true, false, ◌||◌, ◌==◌, nat_lt, Contains, IsPermutation, sym, ◌∙◌, ap, refl, arith, inl, inr}
 use Rattle.std.specs.List.{list_any, list_all}
 use Rattle.std.proofs.lemmas.Bool.{and_from, or_cases, or_left, or_right, lt-ltb, le-ltb, eqb-true, eq-eqb, ne_eqb, cond-true, cond-false, cond_both, cases_order, cases_eq, false≢true, true≢false}
 use Rattle.std.proofs.lemmas.List.Folds.{list_any-append}
@@ -69,11 +69,6 @@ pub ascending_same : (ns : List ℕ) → IsAscending ns → ascending ns ≡ ns
 ascending_same [] a = refl
 ascending_same (n ∷ ns) a = ap (place n) (ascending_same ns a.1) ∙ place_first n ns a.0
 
--- a number above all is placed last
-pub place_last : (k : ℕ) (ns : List ℕ) → AllBelow k ns → place k ns ≡ ns ++ k ∷ []
-place_last k [] b = refl
-place_last k (n ∷ ns) b = place_past k n ns b.0 ∙ ap (λ (l : List ℕ). n ∷ l) (place_last k ns b.1)
-
 AllAbove-filter : (m : ℕ) (p : ℕ → Bool) (ns : List ℕ) → AllAbove m ns → AllAbove m (filter p ns)
 AllAbove-filter m p [] a = tt
 AllAbove-filter m p (n ∷ ns) a = cond_both (p n) _ _ (AllAbove m) (λ _. (a.0, AllAbove-filter m p ns a.1)) (λ _. AllAbove-filter m p ns a.1)
@@ -142,10 +137,6 @@ pub any_ascending : (p : ℕ → Bool) (ns : List ℕ) → list_any p (ascending
 any_ascending p [] = refl
 any_ascending p (n ∷ ns) = any_place p n (ascending ns) ∙ ap (λ b. p n || b) (any_ascending p ns)
 
--- a list with one more number placed has that one too
-pub has-place : (k n : ℕ) (ns : List ℕ) → has k (place n ns) ≡ ((k == n) || has k ns)
-has-place k n ns = any_place (λ m. k == m) n ns
-
 -- an ascending list has the members of the list that it was made from
 pub has-ascending : (k : ℕ) (ns : List ℕ) → has k (ascending ns) ≡ has k ns
 has-ascending k ns = any_ascending (λ m. k == m) ns
@@ -213,15 +204,6 @@ or_comm true false = refl
 or_comm false true = refl
 or_comm false false = refl
 
--- two lists joined either way have the same ascending list
-pub ascending-append_comm : (xs ys : List ℕ) → ascending (xs ++ ys) ≡ ascending (ys ++ xs)
-ascending-append_comm xs ys = ascending_of_members (xs ++ ys) (ys ++ xs) (λ k. has-append k xs ys ∙ or_comm (has k xs) (has k ys) ∙ sym (has-append k ys xs))
-
--- a part of a list may be made ascending before the whole
-pub ascending-append_left : (xs ys : List ℕ) → ascending (ascending xs ++ ys) ≡ ascending (xs ++ ys)
-ascending-append_left xs ys =
-    ascending_of_members (ascending xs ++ ys) (xs ++ ys) (λ k. has-append k (ascending xs) ys ∙ ap (λ b. b || has k ys) (has-ascending k xs) ∙ sym (has-append k xs ys))
-
 -- so may the second part
 pub ascending-append_right : (xs ys : List ℕ) → ascending (xs ++ ascending ys) ≡ ascending (xs ++ ys)
 ascending-append_right xs ys =
@@ -240,9 +222,3 @@ Contains-from_has k (n ∷ ns) h =
       | inl e ↦ (0, omega arith, sym (eqb-true k n e))
       | inr later ↦ let c = Contains-from_has k ns later in (suc c.0, omega arith, c.2)
     ]
-
--- and the other way round
-pub has-from_Contains : (k : ℕ) (ns : List ℕ) → Contains ns k → has k ns ≡ true
-has-from_Contains k [] c = absurd (omega arith)
-has-from_Contains k (n ∷ ns) (zero, low, at) = or_left _ _ (eq-eqb k n (sym at))
-has-from_Contains k (n ∷ ns) (suc i, low, at) = or_right (k == n) _ (has-from_Contains k ns (i, omega arith, at))

@@ -1,11 +1,10 @@
 -- Messages that are given to a graph's rows are at their vids.
 use Rattle.std.proofs.Common.{◌≡◌, ℕ, ◌<◌, ◌≤◌, List, [], ◌∷◌, ◌++◌, map, Option, Bool, true, false, ◌||◌, ◌==◌, nat_lt, Some, None, sym, ◌∙◌, ap, refl, subst, arith, inl, inr}
-use Rattle.std.specs.List.{filter_map}
 use Rattle.std.specs.Option.{option_map}
 use Rattle.std.proofs.lemmas.Bool.{or_cases, or_left, or_right, or_parts, cases_Bool, cases_eq, cases_order, cond-true, cond-false, true≢false, false≢true, ltb-true, ltb-false, eq-eqb, ne_eqb, eqb-true}
 use Rattle.std.proofs.lemmas.List.{map-append}
 use Rattle.px_meaning.specs.Graph.{Vertex, Graph, lookup, vids, ascending, AllAbove, IsAscending, IsMap}
-use Rattle.px_meaning.specs.Attached.{plain, plain_row, fresh_row, below, not_below, first_at, past, attached, joined}
+use Rattle.px_meaning.specs.Attached.{plain, fresh_row, below, not_below, first_at, past, attached, joined}
 use Rattle.px_meaning.specs.Merge.{MergeRule, Pairs, inbox, grouped}
 use Rattle.px_meaning.specs.Program.{Row}
 use Rattle.px_meaning.proofs.Ascending.{has, has-append, has-ascending, has-first, has-above, place_here, IsAscending-ascending, ascending_is, ascending-append_right}
@@ -197,22 +196,9 @@ attached_is_joined ((v, x) ∷ g) b mg mb =
     ])))
     ∙ ap (λ (l : Pairs). joined ((v, x) ∷ g) l) (below_split v b)
 
-plain_attached : (g : Graph) → attached (plain g) [] ≡ plain g
-plain_attached [] = refl
-plain_attached (e ∷ g) = ap (λ rows. plain_row e ∷ rows) (plain_attached g)
-
--- each vertex is a row, where nothing was sent
-pub plain_joined : (g : Graph) → IsMap g → joined g [] ≡ plain g
-plain_joined g is_map = sym (attached_is_joined g [] is_map tt) ∙ plain_attached g
-
 -- the vertex of a row under its vid
 abbrev pub vertex_at : Row → Option (ℕ × Vertex)
 vertex_at row = option_map (λ x. (row.vid, x)) row.vertex
-
--- the vertices of a graph's rows are the graph
-pub graph_of_plain : (g : Graph) → filter_map vertex_at (plain g) ≡ g
-graph_of_plain [] = refl
-graph_of_plain (e ∷ g) = ap (λ (h : Graph). e ∷ h) (graph_of_plain g)
 
 -- a graph joined with grouped pairs has each vid's inbox
 pub joined_grouped : (rule : MergeRule) (g : Graph) (pairs : Pairs) → joined g (grouped rule pairs) ≡ map (λ v. record { vid = v; vertex = lookup v g; message = inbox rule pairs v }) (ascending (vids g ++ vids pairs))

@@ -72,9 +72,3 @@ module _ (rule : MergeRule) (laws : MergeLaws rule) where
   grouped-append_right xs ys hx hy =
       grouped_by_inboxes rule (xs ++ grouped rule ys) (xs ++ ys) (λ v. inbox-append rule laws xs (grouped rule ys) v hx (AllValid-grouped ys hy)
       ∙ ap (merged rule (inbox rule xs v)) (inbox-grouped rule ys v) ∙ sym (inbox-append rule laws xs ys v hx hy))
-
-  -- what two lists joined are grouped to, by look-ups
-  pub lookup-grouped_append : (xs ys : Pairs) (v : ℕ) → AllValid rule xs → AllValid rule ys → lookup v (grouped rule (xs ++ ys)) ≡ merged rule (lookup v (grouped rule xs)) (lookup v (grouped rule ys))
-  lookup-grouped_append xs ys v hx hy =
-      lookup-grouped rule (xs ++ ys) v ∙ inbox-append rule laws xs ys v hx hy ∙ ap (λ o. merged rule o (inbox rule ys v)) (sym (lookup-grouped rule xs v))
-      ∙ ap (merged rule (lookup v (grouped rule xs))) (sym (lookup-grouped rule ys v))

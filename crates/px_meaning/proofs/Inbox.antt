@@ -109,25 +109,12 @@ module _ (rule : MergeRule) (laws : MergeLaws rule) where
   pub inbox_valid : (pairs : Pairs) (v : ℕ) → AllValid rule pairs → IsValidMessage rule (inbox rule pairs v)
   inbox_valid pairs v h = reduce_valid (payloads pairs v) (payloads_valid rule pairs v h)
 
-  -- valid folds as one are valid
-  pub merged_valid : (a b : Option (List ℕ)) → IsValidMessage rule a → IsValidMessage rule b → IsValidMessage rule (merged rule a b)
-  merged_valid None b ha hb = hb
-  merged_valid (Some x) None ha hb = ha
-  merged_valid (Some x) (Some y) ha hb = laws.closed x y ha hb
-
   -- in either order
   pub merged_commutes : (a b : Option (List ℕ)) → IsValidMessage rule a → IsValidMessage rule b → merged rule a b ≡ merged rule b a
   merged_commutes None None ha hb = refl
   merged_commutes None (Some y) ha hb = refl
   merged_commutes (Some x) None ha hb = refl
   merged_commutes (Some x) (Some y) ha hb = ap (λ (l : List ℕ). Some l) (laws.commutes x y ha hb)
-
-  -- and in any grouping
-  pub merged_associates : (a b c : Option (List ℕ)) → IsValidMessage rule a → IsValidMessage rule b → IsValidMessage rule c → merged rule a (merged rule b c) ≡ merged rule (merged rule a b) c
-  merged_associates None b c ha hb hc = refl
-  merged_associates (Some x) None c ha hb hc = refl
-  merged_associates (Some x) (Some y) None ha hb hc = refl
-  merged_associates (Some x) (Some y) (Some z) ha hb hc = ap (λ (l : List ℕ). Some l) (laws.associates x y z ha hb hc)
 
   -- lists of pairs may be joined in either order
   pub inbox-append_comm : (xs ys : Pairs) (v : ℕ) → AllValid rule xs → AllValid rule ys → inbox rule (xs ++ ys) v ≡ inbox rule (ys ++ xs) v

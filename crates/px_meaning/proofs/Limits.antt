@@ -10,9 +10,9 @@ use Rattle.px_meaning.specs.Graph.{Vertex, Graph, IsMap, vids, lookup, ascending
 use Rattle.px_meaning.specs.Merge.{MergeRule, MergeLaws, Pairs, AllValid, payloads, inbox, grouped}
 use Rattle.px_meaning.specs.Step.{is_wide, has_wide_vertex, has_wide_fold, are_beyond}
 use Rattle.px_meaning.proofs.Ascending.{any_ascending}
-use Rattle.px_meaning.proofs.MapTests.{any_from_lookup, none_at_lookup, none_from_lookups, lookup_from_any}
+use Rattle.px_meaning.proofs.MapTests.{any_from_lookup, none_at_lookup, none_from_lookups}
 use Rattle.px_meaning.proofs.Inbox.{fold_valid, payloads_valid, payloads-append, payloads_here, AllValid-append}
-use Rattle.px_meaning.proofs.Grouping.{IsMap-grouped, lookup-grouped, grouped-grouped}
+use Rattle.px_meaning.proofs.Grouping.{IsMap-grouped, lookup-grouped}
 
 any_map : {X Y : Type 0} (p : Y → Bool) (f : X → Y) (xs : List X) → list_any p (map f xs) ≡ list_any (λ x. p (f x)) xs
 any_map p f [] = refl
@@ -105,21 +105,6 @@ inbox_fits rule room pairs v m none is =
 pub fits_from_inboxes : (rule : MergeRule) (room : ℕ) (pairs : Pairs) → ((v : ℕ) (m : List ℕ) → inbox rule pairs v ≡ Some m → pair_size m ≤ room) → has_wide_fold rule room pairs ≡ false
 fits_from_inboxes rule room pairs h =
     none_from_lookups (λ b. nat_lt room (pair_size b)) (grouped rule pairs) (IsMap-grouped rule pairs) (λ v m is. le-ltb room (pair_size m) (h v m (sym (lookup-grouped rule pairs v) ∙ is)))
-
--- an inbox above room is a wide fold
-pub wide_from_inbox : (rule : MergeRule) (room : ℕ) (pairs : Pairs) (v : ℕ) (m : List ℕ) → inbox rule pairs v ≡ Some m → room < pair_size m → has_wide_fold rule room pairs ≡ true
-wide_from_inbox rule room pairs v m is wide =
-    any_from_lookup (λ b. nat_lt room (pair_size b)) v m (grouped rule pairs) (lookup-grouped rule pairs v ∙ is) (lt-ltb room (pair_size m) wide)
-
--- and a wide fold is the inbox of some vid
-pub inbox_from_wide : (rule : MergeRule) (room : ℕ) (pairs : Pairs) → has_wide_fold rule room pairs ≡ true → (v : ℕ) × (m : List ℕ) × (inbox rule pairs v ≡ Some m) × (room < pair_size m)
-inbox_from_wide rule room pairs h =
-    let r = lookup_from_any (λ b. nat_lt room (pair_size b)) (grouped rule pairs) (IsMap-grouped rule pairs) h in
-    (r.0, r.1, sym (lookup-grouped rule pairs r.0) ∙ r.2, ltb-true room (pair_size r.1) r.3)
-
--- grouping once more makes no fold wide
-pub wide-grouped : (rule : MergeRule) (room : ℕ) (pairs : Pairs) → has_wide_fold rule room (grouped rule pairs) ≡ has_wide_fold rule room pairs
-wide-grouped rule room pairs = ap (list_any (λ (e : ℕ × List ℕ). nat_lt room (pair_size e.1))) (grouped-grouped rule pairs)
 
 -- a vertex above room that is found at a vid
 pub wide_from_lookup : (room v : ℕ) (x : Vertex) (g : Graph) → lookup v g ≡ Some x → is_wide room x ≡ true → has_wide_vertex room g ≡ true

@@ -3,7 +3,7 @@ use Rattle.std.proofs.Common.{◌≡◌, ℕ, List, [], ◌∷◌, ◌++◌, fil
 use Rattle.std.proofs.lemmas.Bool.{cases_Bool, cond-true, cond-false, cond_both, cases_eq, true≢false, false≢true}
 use Rattle.std.proofs.lemmas.List.{map-append}
 use Rattle.px_meaning.specs.Graph.{lookup, put, vids, IsAscending, IsMap}
-use Rattle.px_meaning.proofs.Ascending.{AllBelow, IsAscending-filter, IsAscending-front, IsAscending-back, IsAscending-push, AllBelow-from_ascending}
+use Rattle.px_meaning.proofs.Ascending.{AllBelow, IsAscending-filter, IsAscending-front, IsAscending-back, IsAscending-push}
 use Rattle.px_meaning.proofs.Maps.{lookup_here, lookup_past, put_past}
 
 -- a put above all keys adds at the end
@@ -14,10 +14,6 @@ put_last k x (e ∷ es) b = put_past k x e es b.0 ∙ ap (λ l. e ∷ l) (put_la
 -- the keys of two lists joined
 pub vids-append : {X : Type 0} (es fs : List (ℕ × X)) → vids (es ++ fs) ≡ vids es ++ vids fs
 vids-append {X} es fs = map-append (λ (e : ℕ × X). e.0) es fs
-
--- the same where the list with the pair at its end, and what follows it, is a map
-pub put_next : {X : Type 0} (k : ℕ) (x : X) (es fs : List (ℕ × X)) → IsMap (es ++ (k, x) ∷ fs) → put k x es ≡ es ++ (k, x) ∷ []
-put_next k x es fs m = put_last k x es (AllBelow-from_ascending k (vids es) (vids fs) (rw (vids-append es ((k, x) ∷ fs)) at m))
 
 -- the first part of a map is a map
 pub IsMap-front : {X : Type 0} (es fs : List (ℕ × X)) → IsMap (es ++ fs) → IsMap es

@@ -1,5 +1,5 @@
 -- Maps as ascending lists of pairs: look-ups after `put` and `delete`, and that the look-ups decide a map.
-use Rattle.std.proofs.Common.{◌≡◌, ◌≢◌, ◌↔◌, ℕ, zero, suc, ◌+◌, ◌<◌, List, [], ◌∷◌, length, filter, true, false, not, ◌==◌, Option, Some, None, is_some, Contains, sym, ◌∙◌, ap, refl, arith, inl, inr}
+use Rattle.std.proofs.Common.{◌≡◌, ◌≢◌, ℕ, zero, suc, ◌+◌, ◌<◌, List, [], ◌∷◌, length, filter, true, false, not, ◌==◌, Option, Some, None, is_some, Contains, sym, ◌∙◌, ap, refl, arith, inl, inr}
 use Rattle.std.proofs.lemmas.Bool.{lt-ltb, le-ltb, eq-eqb, ne_eqb, or_left, or_right, cond-true, cond-false, cases_order, cases_eq, true≢false, false≢true}
 use Rattle.px_meaning.specs.Graph.{lookup, put, delete, vids, place, AllAbove, IsAscending, IsMap}
 use Rattle.px_meaning.proofs.Ascending.{has, place_below, place_here, place_past, IsAscending-place, IsAscending-filter, first_members, has-above, has-rest}
@@ -221,7 +221,3 @@ lookup-from_Contains k x (e ∷ es) m (zero, low, at) = lookup_here k e es (sym 
 lookup-from_Contains k x (e ∷ es) m (suc i, low, at) =
     let c : Contains es (k, x) = (i, omega arith, at) in
     lookup_past k e es (λ s. true≢false (sym (has-from_pair k x es c) ∙ has-above k e.0 (vids es) (omega arith) m.0)) ∙ lookup-from_Contains k x es m.1 c
-
--- both ways
-pub lookup_iff : {X : Type 0} (k : ℕ) (x : X) (es : List (ℕ × X)) → IsMap es → lookup k es ≡ Some x ↔ Contains es (k, x)
-lookup_iff k x es m = (Contains-from_lookup k x es, lookup-from_Contains k x es m)

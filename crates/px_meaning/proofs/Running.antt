@@ -1,6 +1,6 @@
 -- One more step of a run, and how it ends, for what stands for its states.
 use Rattle.std.proofs.Common.{◌≡◌, ℕ, zero, suc, ◌+◌, ◌-◌, ◌<◌, if◌then◌else◌, Bool, true, false, Option, Some, None, ◌∙◌, ap, refl, subst, arith}
-use Rattle.std.proofs.lemmas.Bool.{cond-true, cond-false}
+use Rattle.std.proofs.lemmas.Bool.{cond-true}
 use Rattle.px_meaning.specs.Meaning.{Outcome, Halted, Limit, Beyond, is_halted, run}
 use Rattle.px_meaning.specs.Program.{ProgramMeaning}
 use Rattle.px_meaning.specs.Step.{State, step}
@@ -47,12 +47,6 @@ module _ (p : ProgramMeaning) (room most taken : ℕ) (s : State) (Stands : Stat
   run_beyond low awake none =
       has.same ∙ ap (λ k. run p room k has.state) (more low) ∙ run_found p room (most - (taken + 1)) has.state
       ∙ ap (λ b. found p room (most - (taken + 1)) has.state b (step p room has.state)) awake ∙ ap (found p room (most - (taken + 1)) has.state false) none
-
--- all steps were taken, and the state is not halted
-pub run_limit : (p : ProgramMeaning) (room most : ℕ) (s : State) (Stands : State → Type 0) (has : HasRun p room most most s Stands) → is_halted has.state ≡ false → run p room most s ≡ Limit (s.superstep + most)
-run_limit p room most s Stands has awake =
-    let none : most - most ≡ 0 = omega arith in
-    has.same ∙ ap (λ k. run p room k has.state) none ∙ cond-false (is_halted has.state) (Halted has.state) (Limit has.state.superstep) awake ∙ ap Limit has.superstep_is
 
 -- a run that halts ends in a halted state
 

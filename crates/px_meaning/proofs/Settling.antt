@@ -28,10 +28,6 @@ IsMap-settled_by p g (e ∷ es) m = IsMap-settled_by p (settle e.0 (p.settle_of 
 pub IsMap-settled : (p : ProgramMeaning) (g : Graph) (requests : Pairs) → IsMap g → IsMap (settled p g requests)
 IsMap-settled p g requests m = IsMap-settled_by p g (grouped p.verdict requests) m
 
--- with no requests a graph is settled as it is
-pub settled_nothing : (p : ProgramMeaning) (g : Graph) → settled p g [] ≡ g
-settled_nothing p g = refl
-
 -- a vid has its new vertex where there is one, else the one that it had
 pub lookup-put_all : (v : ℕ) (g : Graph) (changes : List (ℕ × Vertex)) → IsMap changes → lookup v (put_all g changes) ≡ option_or (lookup v changes) (lookup v g)
 lookup-put_all v g [] m = refl

@@ -1,21 +1,19 @@
 -- A step by its parts: by which it is beyond the limits, and what it gives within them.
-use Rattle.std.proofs.Common.{◌≡◌, ℕ, ◌≤◌, ◌^◌, List, [], ◌∷◌, ◌++◌, map, length, get_or, nat_lt, Bool, true, false, ◌||◌, Some, None, IsTrue, sym, ◌∙◌, ap, refl, subst, append_assoc, inl, inr}
+use Rattle.std.proofs.Common.{◌≡◌, ℕ, List, [], ◌∷◌, ◌++◌, get_or, nat_lt, Bool, true, false, ◌||◌, Some, None, IsTrue, sym, ◌∙◌, ap, refl, subst, append_assoc, inl, inr}
 use Rattle.std.specs.List.{AllByRecursion, list_any, list_all}
 use Rattle.std.specs.Option.{option_or}
-use Rattle.std.proofs.lemmas.Bool.{and_parts, and_from, ltb-true, cases_Bool, cond-true, cond-false, or_cases, or_left, or_right, or_from, false≢true, le-ltb}
+use Rattle.std.proofs.lemmas.Bool.{and_parts, and_from, ltb-true, cases_Bool, cond-true, or_cases, or_left, or_right, or_from, false≢true}
 use Rattle.std.proofs.lemmas.List.Elements.{recursion_from_All}
-use Rattle.px_meaning.specs.Attached.{joined}
-use Rattle.px_meaning.specs.Graph.{Graph, lookup, vids, ascending, pair_size}
-use Rattle.px_meaning.specs.Merge.{MergeRule, MergeLaws, Pairs, AllValid, inbox, grouped}
+use Rattle.px_meaning.specs.Graph.{lookup, pair_size}
+use Rattle.px_meaning.specs.Merge.{MergeRule, MergeLaws, Pairs, AllValid}
 use Rattle.px_meaning.specs.Phase.{computed_from, has_wide_answer}
 use Rattle.px_meaning.specs.Program.{ProgramMeaning, Row}
-use Rattle.px_meaning.specs.Step.{State, moment, is_active, row_at, rows, settled, is_wide, has_wide_vertex, has_wide_fold, has_many_vertices, are_beyond, step}
-use Rattle.px_meaning.proofs.Attaching.{joined_grouped}
+use Rattle.px_meaning.specs.Step.{State, moment, is_active, row_at, rows, is_wide, has_wide_vertex, has_many_vertices, are_beyond, step}
 use Rattle.px_meaning.proofs.Inbox.{AllValid-append}
 use Rattle.px_meaning.proofs.Limits.{fits_at_lookup, wide_pair_among}
 use Rattle.px_meaning.proofs.Rows.{rows_are, rows_active, rows_ascend, IsMap-changes, lookup-changes}
 use Rattle.px_meaning.proofs.Settling.{lookup-put_all}
-use Rattle.px_meaning.proofs.Steps.{steps_beyond, next_state, graph_before, graph_after}
+use Rattle.px_meaning.proofs.Steps.{steps_beyond, graph_before, graph_after}
 
 -- a request above room makes its vid's fold so
 pub wide_request : (rule : MergeRule) → MergeLaws rule → (room : ℕ) (front pairs : Pairs) → AllValid rule front → AllValid rule pairs → IsTrue (list_any (λ e. nat_lt room (pair_size e.1)) pairs) → IsTrue (are_beyond rule room (front ++ pairs))
@@ -38,10 +36,6 @@ third_of_five a b c d e h = or_left (a || b || c || d) e (or_left (a || b || c) 
 
 fourth_of_five : (a b c d e : Bool) → d ≡ true → (a || b || c || d || e) ≡ true
 fourth_of_five a b c d e h = or_left (a || b || c || d) e (or_right (a || b || c) d h)
-
--- or none is
-none_of_five : (a b c d e : Bool) → a ≡ false → b ≡ false → c ≡ false → d ≡ false → e ≡ false → (a || b || c || d || e) ≡ false
-none_of_five a b c d e ha hb hc hd he = or_from (a || b || c || d) e (or_from (a || b || c) d (or_from (a || b) c (or_from a b ha hb) hc) hd) he
 
 module _ (p : ProgramMeaning) (room : ℕ) (s : State) where
   -- a step beyond the limits is none
@@ -85,23 +79,3 @@ module _ (p : ProgramMeaning) (room : ℕ) (s : State) where
             lookup-put_all r.vid s.graph (computed_from p s).changes (IsMap-changes p (moment s) (rows p s) (rows_ascend p s)) ∙ ap (λ o. option_or o (lookup r.vid s.graph)) (lookup-changes p s r.vid on) in
             ap (λ (q : Row). is_wide room (p.out_of (moment s) q).vertex) is ∙ fits_at_lookup room r.vid _ (graph_before p s) off found)))) ∙ here))
       ]
-
--- where nothing is requested
-module _ (p : ProgramMeaning) (s : State) (no_requests : (computed_from p s).requests ≡ []) where
-  -- no request changes the graph
-  pub after_is_before : graph_after p s ≡ graph_before p s
-  after_is_before = ap (settled p (graph_before p s)) no_requests
-
-  -- within the limits the step gives the next state
-  pub step_is_next : (room : ℕ) → has_wide_vertex room (graph_before p s) ≡ false → has_wide_fold p.message room (computed_from p s).sends ≡ false → length (computed_from p s).sends ≤ 2 ^ 40 → length (graph_before p s) ≤ 2 ^ 32 → step p room s ≡ Some (next_state p s)
-  step_is_next room fit_before fit few small =
-      let fit_sends : are_beyond p.message room (computed_from p s).sends ≡ false = or_from (has_wide_fold p.message room (computed_from p s).sends) _ fit (le-ltb (2 ^ 40) (length (computed_from p s).sends) few) in
-      let fit_requests : are_beyond p.verdict room (computed_from p s).requests ≡ false = subst (λ (l : Pairs). are_beyond p.verdict room l ≡ false) (sym no_requests) refl in
-      cond-false (steps_beyond p room s) _ _ (none_of_five (has_wide_vertex room (graph_before p s)) (has_wide_vertex room (graph_after p s)) (are_beyond p.message room (computed_from p s).sends) (are_beyond p.verdict room (computed_from p s).requests) (has_many_vertices (graph_after p s))
-      fit_before (subst (λ (g : Graph). has_wide_vertex room g ≡ false) (sym after_is_before) fit_before) fit_sends fit_requests (le-ltb (2 ^ 32) (length (graph_after p s)) (subst (λ (g : Graph). length g ≤ 2 ^ 32) (sym after_is_before) small)))
-
-  -- the graph with the inboxes has the vids of the next state
-  pub next_rows : joined (graph_before p s) (grouped p.message (computed_from p s).sends) ≡ map (row_at p (next_state p s)) (ascending (vids (graph_after p s) ++ vids (computed_from p s).sends))
-  next_rows =
-      joined_grouped p.message (graph_before p s) (computed_from p s).sends
-      ∙ ap (λ (g : Graph). map (λ v. record { vid = v; vertex = lookup v g; message = inbox p.message (computed_from p s).sends v }) (ascending (vids g ++ vids (computed_from p s).sends))) (sym after_is_before)

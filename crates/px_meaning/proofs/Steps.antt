@@ -34,17 +34,9 @@ some_of_choice : {X : Type 0} (b : Bool) (x y : X) → (if b then None else Some
 some_of_choice true x y h = absurd (true≢false (ap is_some (sym h)))
 some_of_choice false x y h = (refl, some_same x y h)
 
-none_of_choice : {X : Type 0} (b : Bool) (x : X) → (if b then None else Some x) ≡ None → b ≡ true
-none_of_choice true x h = refl
-none_of_choice false x h = absurd (true≢false (ap is_some h))
-
 -- a step that gives a state is within the limits, and gives this one
 pub step_some : (p : ProgramMeaning) (room : ℕ) (s t : State) → step p room s ≡ Some t → (steps_beyond p room s ≡ false) × (next_state p s ≡ t)
 step_some p room s t is = some_of_choice (steps_beyond p room s) (next_state p s) t is
-
--- and one that gives none is beyond them
-pub step_none : (p : ProgramMeaning) (room : ℕ) (s : State) → step p room s ≡ None → steps_beyond p room s ≡ true
-step_none p room s is = none_of_choice (steps_beyond p room s) (next_state p s) is
 
 -- the next graph is a map
 pub IsMap-next : (p : ProgramMeaning) (room : ℕ) (s t : State) → step p room s ≡ Some t → IsMap s.graph → IsMap t.graph

@@ -8,10 +8,6 @@ use Rattle.px_meaning.specs.Step.{State, Computed, is_active, is_wide, moment, r
 abbrev pub computed_from : ProgramMeaning → State → Computed
 computed_from p s = computed p (moment s) (rows p s)
 
--- an active row after the compute phase
-abbrev pub answered_row : ProgramMeaning → Moment → Row → Row
-answered_row p at row = record { vid = row.vid; vertex = Some (p.out_of at row).vertex; message = None }
-
 -- a row after the compute phase: an active one has its new vertex, and no message is left
 abbrev pub computed_row : ProgramMeaning → Moment → Row → Row
 computed_row p at row = record { vid = row.vid; vertex = if is_active row then Some (p.out_of at row).vertex else row.vertex; message = None }
