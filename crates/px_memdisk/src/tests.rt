@@ -2,7 +2,7 @@
 ghost use Rattle.std.specs.Prelude.{◌≡◌, [], ◌∷◌, true, length, IfOk, OnOk};
 ghost use Rattle.px_memdisk.specs.Files.{pages_in};
 
-use crate::MemDisk;
+use crate::{MemDisk, WildDisk};
 use px_core::{Disk, Failed};
 use std::test::Fail;
 
@@ -87,5 +87,36 @@ fn each_call_fails_in_turn(rt: HostRuntime) -> Result<(), Fail> {
         }
         assert_eq!(rt; disk.short(), 0);
     }
+    Ok(())
+}
+
+#[test]
+fn a_wild_disk_gives_other_bytes_from_page_to_page(rt: HostRuntime) -> Result<(), Fail> {
+    let mut disk = WildDisk::new(1);
+    disk.start(4)?;
+    let (mut kept, mut changed) = (false, false);
+    for page in 0..32 {
+        disk.write(7, page, b"abcd")?;
+        let mut bytes = *b"abcd";
+        disk.read(7, page, &mut bytes)?;
+        kept |= bytes == *b"abcd";
+        changed |= bytes != *b"abcd";
+    }
+    disk.clear(7)?;
+    assert!(rt; kept && changed);
+    assert_eq!(rt; (disk.reads(), disk.writes()), (32, 32));
+    Ok(())
+}
+
+#[test]
+fn a_failing_wild_disk_fails_now_and_then(rt: HostRuntime) -> Result<(), Fail> {
+    let mut disk = WildDisk::failing(1);
+    let (mut worked, mut failed) = (false, false);
+    for _ in 0..256 {
+        let done = disk.clear(7);
+        worked |= done.is_ok();
+        failed |= done.is_err();
+    }
+    assert!(rt; worked && failed);
     Ok(())
 }
