@@ -2,8 +2,9 @@
 ghost use Rattle.px_core.specs.Memory.{IsLeft};
 
 use crate::run::px_run;
-use px_core::{Failed, HighTurns, ListTurns, MemSink, MemSource, SeedTurns, Source, Turns};
-use px_memdisk::MemDisk;
+use arrayvec::ArrayVec;
+use px_core::{Disk, Failed, HighTurns, ListTurns, MemSink, MemSource, SeedTurns, Source, Turns};
+use px_memdisk::{MemDisk, WildDisk};
 use std::alloc::{AllocError, Global};
 use std::process::Abort;
 use std::test::Fail;
@@ -62,6 +63,46 @@ impl<T: Turns> Turns for Noted<T> {
 
     fn pick(&mut self, ready: u32) -> u32 {
         self.turns.pick(ready)
+    }
+}
+
+/// A disk that passes each call on and notes the files of updates to which pages with tuples are written, in order.
+#[derive(Drop)]
+struct Noting<D: Disk> {
+    disk: D,
+    files: ArrayVec<u32, 8>,
+}
+
+impl<D: Disk> Disk for Noting<D> {
+    ghost shown = { λ d. D.shown d.disk };
+
+    fn start(&mut self, frame_bytes: u32) -> Result<(), Failed> {
+        self.disk.start(frame_bytes)
+    }
+
+    fn read(&mut self, file: u32, page: u64, into: &mut [u8]) -> Result<(), Failed> {
+        self.disk.read(file, page, into)
+    }
+
+    fn write(&mut self, file: u32, page: u64, from: &[u8]) -> Result<(), Failed> {
+        // The number of tuples stands in bytes 4 to 7 of a page.
+        let has_tuples = from.iter().skip(4).take(4).any(|byte| *byte > 0);
+        if has_tuples && (128..144).contains(&file) && !self.files.is_full() {
+            self.files.push(file);
+        }
+        self.disk.write(file, page, from)
+    }
+
+    fn clear(&mut self, file: u32) -> Result<(), Failed> {
+        self.disk.clear(file)
+    }
+
+    fn reads(&self) -> u64 {
+        self.disk.reads()
+    }
+
+    fn writes(&self) -> u64 {
+        self.disk.writes()
     }
 }
 
@@ -542,6 +583,93 @@ fn any_turns(rt: HostRuntime) -> Result<(), Fail> {
         assert_turns(&rt, alloc, words, SeedTurns::new())?;
     }
     Ok(())
+}
+
+// The updates of three of sixteen partitions are written in the order of their turns.
+fn assert_noted<T: Turns>(
+    rt: &impl Abort,
+    alloc: Global,
+    turns: &mut T,
+    files: &[u32],
+) -> Result<(), Fail> {
+    let words = strings(alloc, "--program reach --from 1 --partitions 16")?;
+    let mut source = MemSource::new(alloc, b"1\n2\n3\n", &[])?;
+    let mut out = MemSink::new(alloc, 4096, &[])?;
+    let mut errs = MemSink::new(alloc, 4096, &[])?;
+    let mut graph = MemDisk::new(alloc, &[])?;
+    let mut scratch = Noting {
+        disk: MemDisk::new(alloc, &[])?,
+        files: ArrayVec::new(),
+    };
+    let status = px_run(
+        alloc,
+        &words,
+        &mut source,
+        &mut out,
+        &mut errs,
+        &mut graph,
+        &mut scratch,
+        turns,
+    );
+    assert_eq!(rt; status, 0);
+    assert_eq!(rt; scratch.files.as_slice(), files);
+    Ok(())
+}
+
+#[test]
+fn partitions_are_computed_by_turns(rt: HostRuntime) -> Result<(), Fail> {
+    let alloc = rt.alloc();
+    assert_noted(&rt, alloc, &mut HighTurns::new(), &[140, 137, 130])?;
+    let mut lowest = ListTurns::new(alloc, &[])?;
+    assert_noted(&rt, alloc, &mut lowest, &[130, 137, 140])
+}
+
+// The status of a run over disks that tell nothing.
+fn run_wild(
+    alloc: Global,
+    words: &str,
+    text: &str,
+    mut graph: WildDisk,
+    mut scratch: WildDisk,
+) -> Result<u8, AllocError> {
+    let words = strings(alloc, words)?;
+    let mut source = MemSource::new(alloc, text.as_bytes(), &[])?;
+    let mut out = MemSink::new(alloc, 4096, &[])?;
+    let mut errs = MemSink::new(alloc, 4096, &[])?;
+    Ok(px_run(
+        alloc,
+        &words,
+        &mut source,
+        &mut out,
+        &mut errs,
+        &mut graph,
+        &mut scratch,
+        &mut HighTurns::new(),
+    ))
+}
+
+// Over such disks a run returns, whatever they answer, and says of none that it failed where none did.
+fn assert_returns(rt: &impl Abort, alloc: Global, words: &str, text: &str) -> Result<(), Fail> {
+    for seed in 1..=200u64 {
+        let graph = WildDisk::new(seed);
+        let scratch = WildDisk::new(seed.wrapping_add(1000));
+        let status = run_wild(alloc, words, text, graph, scratch)?;
+        assert!(rt; status != 6 && status != 7, "seed {seed}: status {status}");
+        let graph = WildDisk::failing(seed);
+        let scratch = WildDisk::failing(seed.wrapping_add(1000));
+        run_wild(alloc, words, text, graph, scratch)?;
+    }
+    Ok(())
+}
+
+#[test]
+fn runs_return_over_disks_that_tell_nothing(rt: HostRuntime) -> Result<(), Fail> {
+    let reach =
+        "--program reach --from 1 --partitions 1 --frames 24 --frame-bytes 256 --max-supersteps 20";
+    assert_returns(&rt, rt.alloc(), reach, FOUR)?;
+    let chains =
+        "--program chains --partitions 1 --frames 24 --frame-bytes 256 --max-supersteps 20";
+    assert_returns(&rt, rt.alloc(), chains, PATH)
 }
 
 // The input is not read where the graph is generated, and the last line is all that is written.
