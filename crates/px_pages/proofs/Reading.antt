@@ -1,5 +1,5 @@
 -- Tuples are found in bytes.
-use Rattle.std.proofs.Common.{◌≡◌, ℕ, zero, suc, ◌+◌, ◌-◌, ◌<◌, ◌≤◌, min, true, false, List, [], ◌∷◌, length, take, drop, get_or, refl, sym, ◌∙◌, ap, arith, nat_lt}
+use Rattle.std.proofs.Common.{◌≡◌, ◌↔◌, ℕ, zero, suc, ◌+◌, ◌-◌, ◌<◌, ◌≤◌, min, true, false, IsTrue, List, [], ◌∷◌, length, take, drop, get_or, refl, sym, ◌∙◌, ap, arith, nat_lt}
 use Rattle.std.proofs.Common.{inl, inr}
 use Rattle.std.proofs.lemmas.Bool.{cases_lt}
 use Rattle.std.proofs.lemmas.Bool.Decides.{nat_tests}
@@ -47,3 +47,8 @@ length-bytes_of-entries_in (suc n) bytes = elim (cases_lt (length bytes) 13) [
       let later = length-bytes_of-entries_in n rest in
       omega (arith, more, both, length-body_at bytes room, later, length-drop (13 + len_at bytes) bytes)
 ]
+
+-- whether a reader that has some to give finds one
+pub none_more : (left at : ℕ) (page : List ℕ) → (left ≡ 0 → ⊥) → IsTrue (nat_lt (length page) (at + 13)) ↔ (entries_in left (drop at page) ≡ [])
+none_more zero at page some = absurd (some refl)
+none_more (suc left) at page some = grind (arith, nat_tests, length-drop at page)

@@ -1,7 +1,7 @@
 -- Pages are made, and read again.
 use Rattle.std.proofs.Common.{◌≡◌, ℕ, suc, ◌+◌, ◌-◌, ◌*◌, ◌^◌, ◌<◌, ◌≤◌, min, List, [], ◌∷◌, ◌++◌, length, take, drop, refl, sym, ◌∙◌, ap, arith, subst}
 use Rattle.std.specs.Prelude.{slice_set}
-use Rattle.std.proofs.lemmas.List.{take_at, take_rest, drop_at, drop_all, append-nil, append_assoc, length-append, length-replicate, drop-replicate, replicate-append-replicate, drop-drop}
+use Rattle.std.proofs.lemmas.List.{take_at, take_rest, drop_at, drop_all, append-nil, append_assoc, length-append, length-drop, length-replicate, drop-replicate, replicate-append-replicate, drop-drop}
 use borrow.Rule.Slice.PartMut.{put_mid, post_of}
 use Rattle.byteorder.specs.Endian.{big_bytes, big_number}
 use Rattle.byteorder.specs.Numbers.{big_number-reads_back}
@@ -157,3 +157,28 @@ made_append w new k l es e page part written made is_entry room is_part is count
     ∙ ap (λ (b : List ℕ). k ∷ 0 ∷ 0 ∷ 0 ∷ big_bytes 4 (length (es ++ e ∷ [])) ++ big_bytes 4 (used_of (es ++ e ∷ [])) ++ big_bytes 8 l ++ zeros 12 ++ b) body in
     let fits : used_of (es ++ e ∷ []) ≤ w.len = omega (arith, used, used_is, room) in
     made_of w.len k l (es ++ e ∷ []) fits made.len.1 made.link (AreEntries-push es e made.entries is_entry) new written bytes made.len.0 count_is used_is len
+
+-- a block becomes zero
+pub put_block : (page block : List ℕ) (at : ℕ) → block ≡ zeros 256 → put_mid at (at + 256 - at) page block ≡ take at page ++ zeros 256 ++ drop (at + 256) page
+put_block page block at is =
+    let n : at + 256 - at ≡ 256 = omega arith in
+    ap (λ (k : ℕ). put_mid at k page block) n ∙ ap (λ (b : List ℕ). take at page ++ (b ++ drop 256 (drop at page))) is
+    ∙ ap (λ (r : List ℕ). take at page ++ (zeros 256 ++ r)) (drop-drop 256 at page) ∙ sym (append_assoc (take at page) (zeros 256) (drop (at + 256) page))
+
+-- one more block of a page is zero
+pub zero_more : (old page new : List ℕ) (at : ℕ) → page ≡ zeros at ++ drop at old → new ≡ take at page ++ zeros 256 ++ drop (at + 256) page
+    → new ≡ zeros (at + 256) ++ drop (at + 256) old
+zero_more old page new at is more =
+    let front : take at page ≡ zeros at = ap (take at) is ∙ take_at (zeros at) (drop at old) at (length-replicate {A = ℕ} at 0) in
+    let back : drop (at + 256) page ≡ drop (at + 256) old =
+    ap (drop (at + 256)) is ∙ sym (drop-drop 256 at (zeros at ++ drop at old)) ∙ ap (drop 256) (drop_at (zeros at) (drop at old) at (length-replicate {A = ℕ} at 0)) ∙ drop-drop 256 at old in
+    more ∙ ap (λ (l : List ℕ). l ++ zeros 256 ++ drop (at + 256) page) front ∙ ap (λ (l : List ℕ). zeros at ++ zeros 256 ++ l) back
+    ∙ ap (λ (l : List ℕ). l ++ drop (at + 256) old) (replicate-append-replicate at 256 0)
+
+-- the rest of it too
+pub zero_rest : (old page rest : List ℕ) (at k : ℕ) → page ≡ zeros at ++ drop at old → at ≤ length old → length old ≤ at + k → rest ≡ zeros (length old - at)
+    → put_mid at k page rest ≡ zeros (length old)
+zero_rest old page rest at k is within all zero =
+    ap (λ (l : List ℕ). put_mid at k l rest) is ∙ put_tail (zeros at) (drop at old) rest at k (length-replicate {A = ℕ} at 0) (omega (arith, length-drop at old, all))
+    ∙ ap (λ (l : List ℕ). zeros at ++ l) zero ∙ replicate-append-replicate at (length old - at) 0
+    ∙ (let e : at + (length old - at) ≡ length old = omega (arith, within) in ap zeros e)

@@ -9,6 +9,7 @@ mod place;
 mod reader;
 pub mod tags;
 mod writer;
+mod zero;
 
 pub use edit::{insert, keep_back, keep_front, remove, replace};
 pub use header::{count, kind, link, put_counts, set_link, used};

@@ -1,5 +1,5 @@
 // Gives the tuples of a page, whoever wrote it.
-ghost use Rattle.std.specs.Prelude.{◌≡◌, ◌<◌, ◌≤◌, ◌+◌, ◌-◌, ◌*◌, [], ◌∷◌, length, IfSome, IfNone};
+ghost use Rattle.std.specs.Prelude.{◌≡◌, ◌<◌, ◌≤◌, ◌+◌, ◌-◌, ◌*◌, ◌↔◌, [], ◌∷◌, length, IsTrue, IfSome, IfNone};
 ghost use Rattle.px_pages.specs.Page.{IsPageLen, tuples_of, used_of, count_of, left_of, entry_of};
 
 use crate::header::{HEADER, count};
@@ -63,13 +63,22 @@ impl PageReader {
         }
     }
 
+    /// Whether `next` will give none.
+    #[inline]
+    pub fn at_end(&self, page: &[u8]) -> bool
+        requires { IsPageLen (length page.now) }
+        ensures { IsTrue result ↔ (left_of self.now page.now ≡ []) }
+    {
+        self.left == 0 || page.len() < self.at as usize + FRONT
+    }
+
     /// The next tuple. `None` where as many were given as the header counts, or where too few bytes are left for one.
     /// A length that goes past the end of the page is cut to what is left.
+    #[inline]
     pub fn next(&mut self, page: &[u8]) -> Option<Tuple>
         requires { IsPageLen (length page.now) }
         ensures none { IfNone result (left_of self.old page.now ≡ []) }
         ensures same { IfNone result (self.new ≡ self.old) }
-
         ensures some { IfSome result (λ t. left_of self.old page.now ≡ entry_of t page.now ∷ left_of self.new page.now) }
         ensures within { IfSome result (λ t. t.at + t.len ≤ length page.now) }
         ensures place { IfSome result (λ t. t.at ≡ self.old.at + 13) }

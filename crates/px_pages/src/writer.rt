@@ -12,6 +12,7 @@ ghost use Rattle.px_meaning.specs.Graph.{room_of};
 ghost use Rattle.px_pages.specs.Page.{IsPageLen, IsWritten, tuples_of, kind_of, count_of, link_of};
 
 use crate::header::{HEADER, put_counts, set_kind};
+use crate::zero::zero;
 use byteorder::{BigEndian, ByteOrder};
 use px_core::Vid;
 use std::marker::Model;
@@ -61,7 +62,7 @@ impl PageWriter {
         ensures used { result.used ≡ 32 }
         ensures len { result.len ≡ length page.new }
     {
-        page.fill(0);
+        zero(page);
         set_kind(page, kind);
         put_counts(page, 0, HEADER as u32);
         PageWriter {

@@ -135,6 +135,7 @@ impl Reader {
     }
 
     // The next tuple of the page in the frame. A body above the buffer's limit, which no writer wrote, is left out.
+    #[inline]
     fn take_one(&mut self, into: &mut Buf) -> Option<Head>
         ensures none { IfNone result (self.old.here ≡ []) }
         ensures same { IfNone result (self.new ≡ self.old) }
@@ -165,6 +166,7 @@ impl Reader {
     }
 
     // The head of the next tuple of the page in the frame, which is not moved past.
+    #[inline]
     fn probe(&self) -> Option<Head>
         ensures none { IfNone result (self.now.here ≡ []) }
         ensures some { IfSome result (λ h. Shows h self.now) }
@@ -226,6 +228,7 @@ impl Reader {
     }
 
     /// The body of the next tuple, whose head `peek` has just given. It lies in the reader's frame.
+    #[inline]
     pub fn peeked(&self) -> &[u8]
         requires { self.now.here ≢ [] }
         ensures { result.now ≡ first_body self.now.here }
@@ -241,6 +244,7 @@ impl Reader {
     }
 
     /// Moves past the next tuple, whose head `peek` has just given. Its body is not copied.
+    #[inline]
     pub fn pass(&mut self)
         requires { self.old.here ≢ [] }
         ensures to_give { (s : Shown) (l : List Entry) → ToGive s self.old l → ToGive s self.new (drop 1 l) }
@@ -255,10 +259,11 @@ impl Reader {
     }
 
     /// Whether no tuple of the page in the frame is left, as before the first page.
+    #[inline]
     pub fn edge(&self) -> bool
         ensures { IsTrue result ↔ (self.now.here ≡ []) }
     {
-        self.probe().is_none()
+        none_in(&self.tuples, self.frame.bytes())
     }
 
     /// The length of a page.
@@ -278,7 +283,20 @@ impl Reader {
     }
 }
 
+// Whether no tuple is left of the page in a frame, as where no page is in it.
+#[inline]
+fn none_in(tuples: &Option<PageReader>, page: &[u8]) -> bool
+    requires { IsPageLen (length page.now) }
+    ensures { IsTrue result ↔ (here_of tuples.now page.now ≡ []) }
+{
+    match tuples {
+        None => true,
+        Some(tuples) => tuples.at_end(page),
+    }
+}
+
 // The next tuple of the page in a frame, where a page is in it.
+#[inline]
 fn next_in(tuples: &mut Option<PageReader>, page: &[u8]) -> Option<Tuple>
     requires { IsPageLen (length page.now) }
     ensures none { IfNone result (here_of tuples.old page.now ≡ []) }
