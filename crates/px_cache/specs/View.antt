@@ -175,10 +175,12 @@ pub record AlikeIn (f : ℕ) (old new : List Note) : Type 0 where
   pub back : (i p : ℕ) → Holds new i f p → Holds old i f p
   pub changed : (i : ℕ) → IsChanged old i → IsChanged new i
 
--- no page of the file is held, and the other files' are as they were
+-- no page of the file is held, the frames that held one are not pinned, and the other files' are as they were
 pub record IsForgotten (file : ℕ) (old new : List Note) : Type 0 where
   pub gone : (i p : ℕ) → Holds new i file p → ⊥
+  pub let_go : (i p : ℕ) → Holds old i file p → IsFree new i
   pub others : (f : ℕ) → (f ≡ file → ⊥) → AlikeIn f old new
+  pub pinned : (i f p : ℕ) → (f ≡ file → ⊥) → Holds old i f p → IsFree new i → IsFree old i
   pub free : (i : ℕ) → IsFree old i → IsFree new i
   pub length : length new ≡ length old
 

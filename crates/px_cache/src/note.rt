@@ -181,7 +181,10 @@ fn forget_one(share: &mut Share, i: u32, file: u32)
     requires full { IsFull share.old }
     ensures gone { (p : ℕ) → Holds (notes_of share.new) i file p → ⊥ }
     ensures kept { (k p : ℕ) → (Holds (notes_of share.old) k file p → ⊥) → Holds (notes_of share.new) k file p → ⊥ }
+    ensures let_go { (p : ℕ) → Holds (notes_of share.old) i file p → IsFree (notes_of share.new) i }
+    ensures ahead { (k p : ℕ) → (k ≡ i → ⊥) → Holds (notes_of share.old) k file p → Holds (notes_of share.new) k file p }
     ensures others { (f : ℕ) → (f ≡ file → ⊥) → AlikeIn f (notes_of share.old) (notes_of share.new) }
+    ensures pinned { (k f p : ℕ) → (f ≡ file → ⊥) → Holds (notes_of share.old) k f p → IsFree (notes_of share.new) k → IsFree (notes_of share.old) k }
     ensures free { (k : ℕ) → IsFree (notes_of share.old) k → IsFree (notes_of share.new) k }
     ensures frames { share.new.frames ≡ share.old.frames }
     ensures stays { SamePlaces share.old share.new }
