@@ -89,7 +89,7 @@ pub trait Join: Drop {
         ensures err { IfErr result (OneBroke (IsInput ins.now) (GD.shown graph.old) (GD.shown graph.new) (SD.shown scratch.old) (SD.shown scratch.new)) }
         ensures stays { view self.new ≡ record (view self.old) { inputs = ins.now } };
 
-    /// The next row, or `None` after the last. The vertex of a row is the one of its vid, or the fresh one; its message goes into the buffer, which is as before where there is none.
+    /// The next row, or `None` after the last. The vertex of a row is the one of its vid, or the fresh one; its message goes into the buffer, which holds any bytes where there is none.
     fn next_row<St: Store, GD: Disk, SD: Disk>(
         &mut self,
         store: &mut St,

@@ -1,4 +1,4 @@
-use Rattle.std.proofs.Common.{rules, ◌≡◌, ◌∙◌, sym, ap, subst, refl, ℕ, Bool, ◌||◌}
+use Rattle.std.proofs.Common.{rules, ◌≡◌, ◌∙◌, sym, ap, refl, ℕ, Bool, ◌||◌}
 use Rattle.std.specs.List.{list_any}
 use Rattle.px_store.specs.Joins.{rows_in}
 use Rattle.px_store.proofs.Joining.{is_of, any_next, any_ends}
