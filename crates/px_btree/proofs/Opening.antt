@@ -16,11 +16,7 @@ use Rattle.px_cache.specs.declared.note.Note.{Note}
 use Rattle.px_cache.specs.View.{CacheView, Shows, Holds, written_frame, mark}
 use Rattle.px_cache.proofs.Lists.{some_is}
 use Rattle.px_cache.proofs.Shows.{holds_within, mark_holds, write_shows}
-use Rattle.px_core.proofs.Pages.{touches_refl}
-use Rattle.px_cache.specs.View.{AnyFile, OthersShown, SameCache}
 use Rattle.px_store.specs.declared.shared.Desk.{Desk}
-use Rattle.px_store.specs.Desks.{IsReady, IsDone}
-use Rattle.px_store.proofs.Apart.{done_by}
 use Rattle.px_btree.specs.Tree.{Piece, TreeView, AreKeys, AreItems, IsLevel, IsMark, MarkFits, IsTree, IsHeld, IsItem, items, leaves_of}
 use Rattle.px_btree.specs.Find.{piece_at, leaf_at, pick}
 use Rattle.px_btree.specs.Put.{placed, with_tuples, changed, changed_leaf}
@@ -370,18 +366,6 @@ closes_scan t f file o d c' some closed s a b is =
     let scan : IsScan t.tree (shut_in (Some o) d) s a b = subst (λ (x : Option OpenLeaf). IsScan t.tree (shut_in x d) s a b) some is.scan in
     subst (λ (c : CacheView). IsScan t.tree (record d { cache = c }) s a b) (sym (closed (in_file (8 * t.tree.part) f o d.cache file fits.2) (only_in (8 * t.tree.part) f o d.cache file (alone t.tree o d s scan.tree.ps fits.2 scan.tree.shows)))) scan
 
-pub none_held : (t : OpenTreeView) (d : Desk) (s : Shown) (l : Graph) → t.leaf ≡ None → IsStored t d s l → IsHeld t.tree d s l
-none_held t d s l none is = subst (λ (x : Option OpenLeaf). IsHeld t.tree (shut_in x d) s l) none is.held
-
-pub none_scan : (t : OpenTreeView) (d : Desk) (s : Shown) (a b : Graph) → t.leaf ≡ None → IsStoredScan t d s a b → IsScan t.tree d s a b
-none_scan t d s a b none is = subst (λ (x : Option OpenLeaf). IsScan t.tree (shut_in x d) s a b) none is.scan
-
-pub stored_none : (t : OpenTreeView) (d : Desk) (s : Shown) (l : Graph) → t.leaf ≡ None → IsHeld t.tree d s l → IsStored t d s l
-stored_none t d s l none held = record {
-  held = subst (λ (x : Option OpenLeaf). IsHeld t.tree (shut_in x d) s l) (sym none) held;
-  fits = subst (λ (x : Option OpenLeaf). OpenFits x t.tree d) (sym none) tt;
-}
-
 pub stored_puts : (t : OpenTreeView) (u : TreeView) (f : ℕ) → t.tree ≡ u → f ≡ 8 * t.tree.part → (o o' : OpenLeaf) (d : Desk) (c' : CacheView) (e : Entry) → t.leaf ≡ Some o → o'.mark ≡ o.mark → o.from ≤ e.key
     → (IsLeafIn f o d.cache → IsAlone f o d.cache → PutsOpen e f o o' d.cache c')
     → (s : Shown) (l : Graph) → IsItem s.page_len e → IsStored t d s l → IsStored (record { tree = u; leaf = Some o' }) (record d { cache = c' }) s (put e.key (vertex_of e.body) l)
@@ -447,16 +431,3 @@ stored_gives t f file o d v there x some le gives s l is =
     let held : IsHeld t.tree (shut_in (Some o) d) s l = subst (λ (y : Option OpenLeaf). IsHeld t.tree (shut_in y d) s l) some is.held in
     let given = gives (in_file (8 * t.tree.part) f o d.cache file fits.2) (only_in (8 * t.tree.part) f o d.cache file (alone t.tree o d s held.tree.ps fits.2 held.tree.shows)) in
     open_gives t.tree o d s l v there x fits.1 fits.2 (omega (arith, le, fits.2.1)) given held
-
-pub done_by_cache : (t : TreeView) (d : Desk) (c' : CacheView) → ((s : Shown) → OthersShown (8 * t.part) d.cache s c' s) → SameCache d.cache c' → (s : Shown) → IsReady true t.part d s → IsDone true t.part d s (record d { cache = c' }) s
-done_by_cache t d c' others stays s ready = done_by true t.part d c' s s ready stays (record { touches = touches_refl AnyFile s; no_fault = refl }) (others s)
-
-pub done_by_owner : (t : TreeView) (d : Desk) (c' : CacheView) → ((s : Shown) → OthersShown (8 * t.part) d.cache s c' s) → SameCache d.cache c' → (s : Shown) → IsReady true t.part d s
-    → IsDone true t.part d s (record d { cache = c'; owner = Some t.part }) s
-done_by_owner t d c' others stays s ready =
-    let done = done_by_cache t d c' others stays s ready in
-    record {
-      clean = done.clean;
-      others = done.others;
-      ready = record { len = done.ready.len; page = done.ready.page; pins = done.ready.pins; owner = refl; few = done.ready.few; side = done.ready.side };
-    }

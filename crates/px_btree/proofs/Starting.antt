@@ -4,23 +4,12 @@ use Rattle.std.specs.Prelude.{None}
 use Rattle.px_core.specs.Shown.{Shown}
 use Rattle.px_pages.specs.Page.{IsPageLen, PageWriterView, IsMade, IsWritten, kind_of, link_of, tuples_of}
 use Rattle.px_pages.specs.Entry.{Entry}
-use Rattle.px_cache.specs.declared.note.Note.{Note}
-use Rattle.px_cache.specs.View.{CacheView, Shows, ShownAfterNew, Holds, NoPins, IsForgotten, written_frame}
+use Rattle.px_cache.specs.View.{CacheView, Shows, ShownAfterNew, Holds, written_frame}
 use Rattle.px_cache.proofs.Shows.{write_shows}
 use Rattle.px_store.specs.declared.shared.Desk.{Desk}
 use Rattle.px_pages.specs.Page.{writer_of}
 use Rattle.px_btree.specs.Tree.{Piece, IsHeld, HoldsPage}
 use Rattle.px_btree.specs.Fresh.{WithPage}
-
-pub forgotten_pins : (f : ℕ) (old new : List Note) → IsForgotten f old new → NoPins old → NoPins new
-forgotten_pins f old new is free = record {
-  some = omega (arith, is.length, free.some);
-  free = λ i lt. is.free i (free.free i (omega (arith, is.length, lt)));
-}
-
--- another file is on the disk as it was
-pub disk_shows : (c : CacheView) (s s' : Shown) (f : ℕ) (ps : List (List ℕ)) → s'.files f ≡ s.files f → Shows c s f ps → Shows c s' f ps
-disk_shows c s s' f ps is sh = record { disk = sh.disk; told = is ∙ sh.told; few = sh.few; short = sh.short; held = sh.held; rest = sh.rest; once = sh.once }
 
 -- the writer's page
 pub made_empty : (w : PageWriterView) (page : List ℕ) (kind len : ℕ) → IsWritten w page → tuples_of page ≡ [] → kind_of page ≡ kind → link_of page ≡ 0 → length page ≡ len → IsMade (writer_of len []) kind 0 [] page

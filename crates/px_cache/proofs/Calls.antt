@@ -1,16 +1,11 @@
 -- What calls of a cache, one after the other, do to the disk and to the notes.
-use Rattle.std.proofs.Common.{◌≡◌, ◌+◌, ℕ, refl, sym, ◌∙◌, ap, subst, arith}
-use Rattle.px_core.specs.Shown.{Shown, Touches, Worked, Stopped}
-use Rattle.px_core.specs.declared.stop.Stop.{Stop}
-use Rattle.px_core.specs.declared.stop.Stop.TheVariants.{Graph}
-use Rattle.px_core.proofs.Pages.{touches_refl, touches_then, touches_more}
-use Rattle.px_cache.specs.View.{CacheView, ReadsUpTo, Breaks, OnlyCleaned, SameCache, AnyFile, IsChanged, clean, bare}
+use Rattle.std.proofs.Common.{◌≡◌, ◌+◌, ℕ, ◌∙◌, ap, subst, arith}
+use Rattle.px_core.specs.Shown.{Shown, Touches, Worked}
+use Rattle.px_core.proofs.Pages.{touches_then, touches_more}
+use Rattle.px_cache.specs.View.{CacheView, ReadsUpTo, OnlyCleaned, SameCache, AnyFile, IsChanged, clean, bare}
 use Rattle.px_cache.proofs.Lists.{clean_bare, same_bare_pins}
 use Rattle.px_cache.proofs.Shows.{clean_still}
 use Rattle.px_cache.proofs.Pins.{same_cache}
-
-pub reads_refl : (s : Shown) → ReadsUpTo 0 s s
-reads_refl s = record { touches = touches_refl AnyFile s; no_fault = refl; reads = omega arith }
 
 pub reads_then : (n m : ℕ) (a b c : Shown) → ReadsUpTo n a b → ReadsUpTo m b c → ReadsUpTo (n + m) a c
 reads_then n m a b c x y = record {
@@ -19,26 +14,11 @@ reads_then n m a b c x y = record {
   reads = omega (arith, x.reads, y.reads);
 }
 
--- a call that failed, after calls that did not
-pub breaks_after : (a b c : Shown) (e : Stop) → ReadsUpTo 0 a b → Breaks b c e → Breaks a c e
-breaks_after a b c e x y = record {
-  only = y.only;
-  touches = touches_then AnyFile a b c x.touches y.touches;
-  rose = omega (arith, x.no_fault, y.rose);
-  reads = omega (arith, x.reads, x.touches.counts.reads, y.reads);
-}
-
 pub any_touches : (mine : ℕ → Type 0) (a b : Shown) → Touches mine a b → Touches AnyFile a b
 any_touches mine a b t = touches_more mine AnyFile a b (λ f m. tt) t
 
 pub write_reads : (mine : ℕ → Type 0) (a b : Shown) → Worked mine 0 1 a b → ReadsUpTo 0 a b
 write_reads mine a b w = record { touches = any_touches mine a b w.touches; no_fault = w.no_fault; reads = omega (arith, w.reads) }
-
-pub stop_breaks : (mine : ℕ → Type 0) (a b : Shown) (e : Stop) → e ≡ Graph → Stopped mine 0 0 a b → Breaks a b e
-stop_breaks mine a b e is s = record { only = is; touches = any_touches mine a b s.touches; rose = s.rose; reads = s.reads }
-
-pub cleaned_refl : (c : CacheView) → OnlyCleaned c c
-cleaned_refl c = record { len = refl; frames = refl; bare = refl; hand = refl; still = λ i h. h }
 
 pub cleaned_then : (a b c : CacheView) → OnlyCleaned a b → OnlyCleaned b c → OnlyCleaned a c
 cleaned_then a b c x y = record {
@@ -48,9 +28,6 @@ cleaned_then a b c x y = record {
   hand = y.hand ∙ x.hand;
   still = λ i h. x.still i (y.still i h);
 }
-
-pub cleaned_as : (a b : CacheView) → b ≡ a → OnlyCleaned a b
-cleaned_as a b same = subst (λ (v : CacheView). OnlyCleaned a v) (sym same) (cleaned_refl a)
 
 pub cleaned_one : (c new : CacheView) (i : ℕ) → new ≡ record c { notes = clean c.notes i } → OnlyCleaned c new
 cleaned_one c new i is = record {

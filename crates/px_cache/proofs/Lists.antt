@@ -1,12 +1,7 @@
 -- Lists that one write changes.
-use Rattle.std.proofs.Common.{◌≡◌, ◌≢◌, ◌<◌, ℕ, zero, suc, Bool, true, false, List, [], ◌∷◌, ◌++◌, length, set, get_or, drop, map, refl, sym, ◌∙◌, ap, subst, arith, length-append, length-drop}
-use Rattle.std.proofs.lemmas.List.{length-set, length-take, drop_all, take_all, append-nil}
-use Rattle.std.proofs.lemmas.Grind.{common_steps}
+use Rattle.std.proofs.Common.{◌≡◌, ◌≢◌, ◌<◌, ℕ, zero, suc, Bool, true, false, List, [], ◌∷◌, ◌++◌, length, set, map, refl, sym, ◌∙◌, ap, subst, arith}
 use Rattle.std.specs.Prelude.{Some, slice_get}
-use Rattle.std.proofs.lemmas.List.Elements.{All-set}
-use Rattle.px_frames.specs.Lending.{fitted}
-use Rattle.px_frames.specs.LendingShare.{with_frame}
-use Rattle.px_frames.specs.Shares.{ShareView, IsShare, SamePlaces}
+use Rattle.px_frames.specs.Shares.{ShareView, SamePlaces}
 use Rattle.px_cache.specs.declared.note.Note.{Note}
 use Rattle.px_cache.specs.Note.{unpacked, notes_of}
 use Rattle.px_cache.specs.View.{CacheView, view_of, IsCache, Holds, IsChanged, mark, clean, bare, changes, pins, IsFree}
@@ -25,9 +20,6 @@ slice_get-set_other (x ∷ xs) zero zero y other = absurd (other refl)
 slice_get-set_other (x ∷ xs) zero (suc j) y other = refl
 slice_get-set_other (x ∷ xs) (suc i) zero y other = refl
 slice_get-set_other (x ∷ xs) (suc i) (suc j) y other = slice_get-set_other xs i j y (λ e. other (ap suc e))
-
-pub fitted_length : (old w : List ℕ) → length (fitted old w) ≡ length old
-fitted_length old w = omega (arith, length-take (length old) (w ++ drop (length w) old), length-append w (drop (length w) old), length-drop (length w) old)
 
 pub mark_is : (ns : List Note) (i : ℕ) (n : Note) → slice_get ns i ≡ Some n → set ns i (record n { changed = true }) ≡ mark ns i
 mark_is [] i n is = refl
@@ -111,27 +103,6 @@ in_frames s hand i is lt = omega (arith, lt, notes_length s.notes, is.share.plac
 
 pub same_number : (s : ShareView) (hand : ℕ) → IsCache s hand → length (notes_of s) ≡ length s.frames
 same_number s hand is = omega (arith, notes_length s.notes, is.share.places, is.full)
-
--- after a note was written, and after a frame was
-pub cache_note : (s t : ShareView) (hand : ℕ) → IsCache s hand → t.frames ≡ s.frames → SamePlaces s t → IsShare t → IsCache t hand
-cache_note s t hand is frames stays share = record {
-  share = share;
-  full = ap length frames ∙ is.full ∙ sym stays.size;
-  within = omega (arith, is.within, ap length frames);
-}
-
-pub cache_frame : (s : ShareView) (hand i : ℕ) (w : List ℕ) → IsCache s hand → i < length s.frames → length (get_or s.frames i []) ≡ s.frame_len → IsCache (with_frame s i w) hand
-cache_frame s hand i w is lt len = record {
-  share = record {
-    within = omega (arith, is.share.within, length-set s.frames i (fitted (get_or s.frames i []) w));
-    places = is.share.places;
-    lens = All-set (λ (f : List ℕ). length f ≡ s.frame_len) s.frames i (fitted (get_or s.frames i []) w) (fitted_length (get_or s.frames i []) w ∙ len) is.share.lens;
-    few = is.share.few;
-    frame_len = is.share.frame_len;
-  };
-  full = length-set s.frames i _ ∙ is.full;
-  within = omega (arith, is.within, length-set s.frames i (fitted (get_or s.frames i []) w));
-}
 
 -- the cache after its notes were written
 pub view_as : (c : CacheView) (s t : ShareView) (hand : ℕ) (ns : List Note) → view_of s hand ≡ c → notes_of t ≡ ns → t.frames ≡ s.frames → SamePlaces s t → view_of t hand ≡ record c { notes = ns }

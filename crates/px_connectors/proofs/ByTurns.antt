@@ -1,23 +1,22 @@
 -- Readers side by side: one of them goes on, and the others keep what they have left.
 use Rattle.std.proofs.Common.{◌≡◌, ◌≢◌, ℕ, zero, suc, ◌+◌, ◌*◌, ◌<◌, ◌≤◌, List, [], ◌∷◌, ◌++◌, length, map, set, sym, ◌∙◌, ap, subst, arith, refl, inl, inr, Bool, true, false, take, drop}
-use Rattle.std.specs.Prelude.{Option, Some, None, IfSome, IfNone, IsTrue, IsFalse, is_some, slice_get}
+use Rattle.std.specs.Prelude.{Option, Some, None, IsTrue, IsFalse, slice_get}
 use Rattle.std.proofs.lemmas.Bool.{cases_eq, cases_lt, cond-true, cond-false, eq-eqb, ne_eqb}
 use Rattle.std.proofs.lemmas.List.{drop_all, length-take}
 use Rattle.std.proofs.lemmas.Nat.Bits.{bit_at-zero}
 use Rattle.px_cache.proofs.Lists.{slice_get-set_same, slice_get-set_other, some_is}
 use Rattle.px_core.specs.Bits.{IsBit}
-use Rattle.px_core.specs.Same.{Same}
 use Rattle.px_core.specs.Shown.{Shown, Touches, NoFile}
 use Rattle.px_core.proofs.Keeping.{same_by_none}
 use Rattle.px_meaning.specs.Merge.{Pairs}
 use Rattle.px_pages.specs.Entry.{Entry, entry}
 use Rattle.px_program.specs.Groups.{LeadsPair}
-use Rattle.px_stream.specs.Stream.{ToGive, Leads, Shows, IsOver, tuple, all_tuples}
+use Rattle.px_stream.specs.Stream.{Leads, IsOver, tuple, all_tuples}
 use Rattle.px_stream.specs.Views.{ReaderView}
 use Rattle.px_stream.specs.declared.reader.Head.{Head}
-use Rattle.px_connectors.specs.Frames.{give_all_same, gives_pairs_same}
+use Rattle.px_connectors.specs.Frames.{gives_pairs_same}
 use Rattle.px_connectors.specs.Messages.{tagged}
-use Rattle.px_connectors.specs.Receiving.{bit, OfReader, EachReader, IsReader, AreReaders, HasTuple, HasAt, AllOver, GivesPairs, GiveAll, left_in, all_left}
+use Rattle.px_connectors.specs.Receiving.{bit, OfReader, HasTuple, HasAt, AllOver, GivesPairs, GiveAll, left_in, all_left}
 use Rattle.px_connectors.specs.Views as views
 use Rattle.px_connectors.specs.Views.{IsConnectorFile}
 
@@ -72,22 +71,9 @@ pub reader_more : (P Q : ReaderView → Type 0) (o : Option ReaderView) → ((r 
 reader_more P Q None f h = h
 reader_more P Q (Some r) f h = f r h
 
-reader_both : (P Q R : ReaderView → Type 0) (o : Option ReaderView) → ((r : ReaderView) → P r → Q r → R r) → OfReader P o → OfReader Q o → OfReader R o
-reader_both P Q R None f p q = absurd p
-reader_both P Q R (Some r) f p q = f r p q
-
 pub reader_is : (P : ReaderView → Type 0) (o : Option ReaderView) (r : ReaderView) → o ≡ Some r → OfReader P o → P r
 reader_is P None r is h = absurd h
 reader_is P (Some x) r is h = let same : x ≡ r = cc in subst P same h
-
--- what was peeked at
-pub has_shown : (o : Option Head) (r : ReaderView) → IfSome o (λ h. Shows h r) → IsTrue (is_some o) → HasTuple r
-has_shown None r shows is = absurd (cc is)
-has_shown (Some h) r shows is = λ none. cc (sym none ∙ shows.is)
-
-pub over_shown : (o : Option Head) (r : ReaderView) → IfNone o (IsOver r) → IsFalse (is_some o) → IsOver r
-over_shown None r over is = over
-over_shown (Some h) r over is = absurd (cc is)
 
 -- where none is left, no pair is
 over_gives : (s : Shown) (l : Pairs) (r : ReaderView) → IsOver r → GivesPairs s l r → l ≡ []

@@ -1,16 +1,16 @@
 -- What was given by turns, and what is left of each sender, are the whole in some order.
-use Rattle.std.proofs.Common.{◌≡◌, ℕ, zero, suc, ◌<◌, ◌≤◌, List, [], ◌∷◌, ◌++◌, IsTrue, IsPermutation, false, sym, ◌∙◌, ap, append_assoc, subst, refl, inl, inr, arith, flat_map}
+use Rattle.std.proofs.Common.{◌≡◌, ℕ, zero, suc, ◌<◌, ◌≤◌, List, [], ◌∷◌, ◌++◌, IsTrue, IsPermutation, sym, ◌∙◌, ap, subst, refl, inl, inr, arith}
 use Rattle.std.specs.Prelude.{nat_lt}
 use Rattle.std.specs.List.{list_any}
-use Rattle.std.proofs.lemmas.Bool.{cases_eq, cond-true, cond-false, eq-eqb, ne_eqb, and_parts, and_from}
+use Rattle.std.proofs.lemmas.Bool.{cases_eq, cond-true, cond-false, eq-eqb, ne_eqb, and_parts}
 use Rattle.std.proofs.lemmas.Grind.{flat_map-append}
 use Rattle.std.proofs.lemmas.List.{append-nil}
-use Rattle.std.proofs.lemmas.List.Sorted.{IsPermutation-refl, IsPermutation-trans, IsPermutation-cons, IsPermutation-middle, IsPermutation-append, IsPermutation-pop_more}
+use Rattle.std.proofs.lemmas.List.Sorted.{IsPermutation-refl, IsPermutation-middle, IsPermutation-append, IsPermutation-pop_more}
 use Rattle.px_core.specs.Parts.{upto, all_of}
 use Rattle.px_meaning.specs.Graph.{pair_size}
-use Rattle.px_meaning.specs.Merge.{MergeRule, MergeLaws, Pairs, AllValid, grouped}
+use Rattle.px_meaning.specs.Merge.{MergeRule, MergeLaws, Pairs, AllValid}
 use Rattle.px_meaning.specs.Step.{has_wide_fold}
-use Rattle.px_meaning.proofs.Inbox.{AllValid-append, AllValid-parts}
+use Rattle.px_meaning.proofs.Inbox.{AllValid-parts}
 use Rattle.px_meaning.proofs.Limits.{wide_with_more}
 use Rattle.px_meaning.proofs.Rearranged.{AllValid-IsPermutation, grouped-IsPermutation}
 use Rattle.px_program.specs.Groups.{LeadsPair}

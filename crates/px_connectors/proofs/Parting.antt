@@ -159,12 +159,6 @@ pub record Ending (s : Shown) (tag q parts first : ℕ) (v : WritersView) (l : P
   pub done : (i : ℕ) → i < q → Holds s (first + i) (slice_index_or v.pages i 0) (map (tagged tag) (to_part parts i l))
   pub rest : (i : ℕ) → q ≤ i → i < parts → OfWriter (λ w. TookAll s tag w (to_part parts i l)) (writer_at v i)
 
-pub ending_first : (s : Shown) (tag : ℕ) (v : WritersView) (l : Pairs) → TookParts s tag v l → Ending s tag 0 (parts_in v) v.first v l
-ending_first s tag v l h = record {
-  done = λ i lt. absurd (omega (arith, lt));
-  rest = λ i low lt. h.each i lt;
-}
-
 pub ending_next : (a b : Shown) (tag q parts first : ℕ) (v v' : WritersView) (l : Pairs) → AreWriters v → v.first ≡ first → parts_in v ≡ parts → q < parts → Touches (Only (v.first + q)) a b
     → ((k : Pairs) → OfWriter (λ w. TookAll a tag w k) (writer_at v q) → Holds b (v.first + q) (slice_index_or v'.pages q 0) (map (tagged tag) k))
     → ((i : ℕ) → i ≢ q → writer_at v' i ≡ writer_at v i) → ((i : ℕ) → i ≢ q → slice_index_or v'.pages i 0 ≡ slice_index_or v.pages i 0)

@@ -1,22 +1,19 @@
 -- A plain connector sends or receives, and what its finished senders sent stays.
 use Rattle.std.proofs.Common.{◌≡◌, ◌≢◌, ◌<◌, ◌≤◌, ℕ, ◌+◌, ◌*◌, List, [], sym, ◌∙◌, subst, refl, arith, inl, inr, length}
 use Rattle.std.specs.Prelude.{Option, Some, None, IfSome, IfNone, slice_index_or, slice_set}
-use Rattle.std.proofs.lemmas.List.{get_or-set_same, get_or-set_other}
-use Rattle.px_core.specs.Same.{Same, Apart}
-use Rattle.px_core.specs.Shown.{Shown, Touches, NoFile}
+use Rattle.std.proofs.lemmas.List.{get_or-set_same}
+use Rattle.px_core.specs.Same.{Same}
+use Rattle.px_core.specs.Shown.{Shown, Touches}
 use Rattle.px_core.proofs.Keeping.{same_by_touches}
 use Rattle.px_meaning.specs.Merge.{Pairs}
 use Rattle.px_program.specs.Groups.{LeadsPair, GroupMade, IsOwn}
 use Rattle.px_connectors.specs.Files.{OwnOr}
 use Rattle.px_connectors.specs.Frames.{hold_parts_same}
-use Rattle.px_connectors.specs.Receiving.{GiveAll, AreReaders, FilesHold, all_left}
+use Rattle.px_connectors.specs.Receiving.{GiveAll, all_left}
 use Rattle.px_connectors.specs.Sides.{PartitioningView, OfWriters, OfReaders, AreSending, AreReceiving, OnOneSide, HasSent, left_to_give}
 use Rattle.px_connectors.specs.Views.{IsSenderFile, IsConnectorFile, at}
-use Rattle.px_connectors.specs.Writers.{WritersView, AreWriters, parts_in, HoldParts, SameWriters}
+use Rattle.px_connectors.specs.Writers.{WritersView, HoldParts}
 use Rattle.px_connectors.specs.declared.readers.PartReaders.{PartReaders}
-
-senders_apart : (p q : ℕ) → p ≢ q → Apart (IsSenderFile p) (IsSenderFile q)
-senders_apart p q other f a b = other (omega (arith, a.low, a.high, b.low, b.high))
 
 pub sender_file : (p : ℕ) → p < 16 → (f : ℕ) → IsSenderFile p f → IsConnectorFile f
 sender_file p lt f a = record { low = omega (arith, a.low); high = omega (arith, a.high, lt) }
@@ -30,10 +27,6 @@ sent_kept c d s t p l parts row same sent =
       holds = subst (λ (n : ℕ). HoldParts t 0 (256 + 16 * p) n (slice_index_or d.pages p []) l) (sym parts)
           (subst (λ (r : List ℕ). HoldParts t 0 (256 + 16 * p) c.parts r l) (sym row) held);
     }
-
--- another sender's files are changed
-pub sent_other : (c d : PartitioningView) (s t : Shown) (q p : ℕ) (l : Pairs) → p ≢ q → d.parts ≡ c.parts → slice_index_or d.pages p [] ≡ slice_index_or c.pages p [] → Touches (IsSenderFile q) s t → HasSent c s p l → HasSent d t p l
-sent_other c d s t q p l other parts row touches sent = sent_kept c d s t p l parts row (same_by_touches (IsSenderFile p) (IsSenderFile q) s t (senders_apart p q other) touches) sent
 
 -- files are changed that are of no sender
 pub sent_beside : (mine : ℕ → Type 0) (c d : PartitioningView) (s t : Shown) (p : ℕ) (l : Pairs) → c.parts ≤ 16 → ((f : ℕ) → mine f → IsConnectorFile f → ⊥) → d.parts ≡ c.parts → slice_index_or d.pages p [] ≡ slice_index_or c.pages p [] → Touches mine s t
@@ -57,9 +50,6 @@ sent_now d first parts sender p rows row t l is below low first_is parts_are pag
       rw pages (subst (λ (r : List ℕ). HoldParts t 0 (256 + 16 * sender) d.parts r l) (sym (get_or-set_same rows sender row [] low)) all);
 })
 
-pub row_other : (rows : List (List ℕ)) (p q : ℕ) (row : List ℕ) → p ≢ q → slice_index_or (slice_set rows q row) p [] ≡ slice_index_or rows p []
-row_other rows p q row other = get_or-set_other rows q p row [] other
-
 -- writers that are there
 pub writers_is : (P : WritersView → Type 0) (o : Option WritersView) (w : WritersView) → o ≡ Some w → OfWriters P o → P w
 writers_is P None w is h = absurd h
@@ -78,21 +68,6 @@ pub are_receiving : (parts len : ℕ) (o : Option WritersView) (rs : Option Part
 are_receiving parts len o None r is side = absurd (cc is)
 are_receiving parts len None (Some x) r is side = let same : x ≡ r = cc in subst (AreReceiving parts len) same side
 are_receiving parts len (Some w) (Some x) r is side = absurd side
-
-pub sending_kept : (parts len : ℕ) (w w' : WritersView) → AreSending parts len w → SameWriters w w' → AreWriters w' → AreSending parts len w'
-sending_kept parts len w w' h same are = record { are = are; parts_are = same.parts ∙ h.parts_are; frame_len = same.frame_len ∙ h.frame_len }
-
--- the writers went on
-pub side_sends : (parts len : ℕ) (o : Option WritersView) (r : Option PartReaders) (w w' : WritersView) → o ≡ Some w → OnOneSide parts len o r → SameWriters w w' → AreWriters w' → OnOneSide parts len (Some w') r
-side_sends parts len None r w w' is side same are = absurd (cc is)
-side_sends parts len (Some x) None w w' is side same are = let e : x ≡ w = cc in sending_kept parts len w w' (subst (AreSending parts len) e side) same are
-side_sends parts len (Some x) (Some r) w w' is side same are = absurd side
-
--- the readers went on
-pub side_receives : (parts len : ℕ) (o : Option WritersView) (rs : Option PartReaders) (r r' : PartReaders) → rs ≡ Some r → OnOneSide parts len o rs → AreReaders len r'.readers.items → length r'.readers.items ≡ length r.readers.items → OnOneSide parts len o (Some r')
-side_receives parts len o None r r' is side are count = absurd (cc is)
-side_receives parts len None (Some x) r r' is side are count = let e : x ≡ r = cc in record { are = are; parts_are = count ∙ (subst (AreReceiving parts len) e side).parts_are }
-side_receives parts len (Some w) (Some x) r r' is side are count = absurd side
 
 pub readers_is : (P : PartReaders → Type 0) (o : Option PartReaders) (r : PartReaders) → o ≡ Some r → OfReaders P o → P r
 readers_is P None r is h = absurd h

@@ -66,7 +66,3 @@ ends_dump n m k graph s t (Err x) e err same clean (inr h) = absurd (cc h.0)
 ends_dump n m k graph s t (Ok u) e err same clean (inl h) = absurd (cc h.0)
 ends_dump n m k graph s t (Ok u) e err same clean (inr h) =
     subst (λ (y : DumpStop). DumpStops n k graph graph s t y) (sym h.1) (dump_after n m k graph graph graph s t t stops.Sink same (clean_refl AnyFile graph) (clean_more NoFile IsDumpFile s t (λ f none. absurd none) clean) (dump_sink m k graph t h.2))
-
-pub at_ok : (r : Result (Unit {0}) DumpStop) (P : Type 0) → r ≡ Ok tt → OnOk r P → P
-at_ok (Ok u) P is h = h
-at_ok (Err e) P is h = absurd (cc is)

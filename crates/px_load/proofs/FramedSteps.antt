@@ -20,14 +20,6 @@ waits_more frame frame' bytes from to n order within short is =
     ∙ ap (drop from) (take_at (a ++ b) (drop (to + n) frame) (to + n) (omega (arith, length-append a b, la, lb)))
     ∙ drop-append-le from a b (omega (arith, order, la))
 
-pub put_more : (Began Holds : List ℕ → Type 0) (frame frame' bytes all : List ℕ) (from to n : ℕ) → from ≤ to → to ≤ length frame → n ≤ length bytes → frame' ≡ take to frame ++ take n bytes ++ drop (to + n) frame
-    → IsPut Began Holds frame from to all → IsPut Began Holds frame' from (to + n) (all ++ take n bytes)
-put_more Began Holds frame frame' bytes all from to n order within short is p = record {
-  sent = p.sent;
-  is = ap (λ (l : List ℕ). l ++ take n bytes) p.is ∙ append_assoc p.sent (waiting frame from to) (take n bytes) ∙ ap (λ (l : List ℕ). p.sent ++ l) (sym (waits_more frame frame' bytes from to n order within short is));
-  holds = p.holds;
-}
-
 -- what waits goes on in part
 pub put_on : (Began Holds Now : List ℕ → Type 0) (frame slice all : List ℕ) (from to n : ℕ) → slice ≡ waiting frame from to → ((h : List ℕ) → Holds h → Now (h ++ take n slice))
     → IsPut Began Holds frame from to all → IsPut Began Now frame (from + n) to all
@@ -82,17 +74,6 @@ put_some (Err e) Puts Began Holds text ok err ends h began =
       | inl lt ↦ record { most = part.most; holds = subst (λ (l : List ℕ). Holds (h ++ l)) (take-take part.most err.most text (omega (arith, lt))) part.holds }
       | inr le ↦ record { most = err.most; holds = subst (λ (l : List ℕ). Holds (h ++ l)) (take_all part.most (take err.most text) (omega (arith, le, length-take err.most text))) part.holds }
     ]
-
--- more was put, and what was lent is the same
-pub named_more : (out frame out' frame' : ℕ) (Had Puts : List ℕ → Type 0) (text l : List ℕ) → out' ≡ out → frame' ≡ frame → ((all : List ℕ) → Had all → Puts (all ++ text)) → IsNamed out frame Had l → IsNamed out' frame' Puts (l ++ text)
-named_more out frame out' frame' Had Puts text [] o f put h = absurd h
-named_more out frame out' frame' Had Puts text (n ∷ []) o f put h = absurd h
-named_more out frame out' frame' Had Puts text (n ∷ m ∷ all) o f put h = (h.0 ∙ sym o, h.1 ∙ sym f, put all h.2)
-
-pub named_same : (out frame out' frame' : ℕ) (Had Puts : List ℕ → Type 0) (l : List ℕ) → out' ≡ out → frame' ≡ frame → ((all : List ℕ) → Had all → Puts all) → IsNamed out frame Had l → IsNamed out' frame' Puts l
-named_same out frame out' frame' Had Puts [] o f put h = absurd h
-named_same out frame out' frame' Had Puts (n ∷ []) o f put h = absurd h
-named_same out frame out' frame' Had Puts (n ∷ m ∷ all) o f put h = (h.0 ∙ sym o, h.1 ∙ sym f, put all h.2)
 
 -- what is held once something was put, of a sink that began with the names alone
 module _ (out frame out' frame' : ℕ) (Puts : List ℕ → Type 0) where

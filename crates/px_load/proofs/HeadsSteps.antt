@@ -259,9 +259,6 @@ module _ {X : Type 0} where
 abbrev pub GiveFirst : Shown → ℕ → ℕ → List PartReader → Graph → Type 0
 GiveFirst s room parts ps g = (q : ℕ) (p : PartReader) → slice_get ps q ≡ Some p → GivesVertices s room p (to_part parts q g)
 
-pub give_all : (s : Shown) (room parts : ℕ) (ps : List PartReader) (g : Graph) → length ps ≡ parts → GiveFirst s room parts ps g → GiveParts s room ps g
-give_all s room parts ps g count give q p at = subst (λ (n : ℕ). GivesVertices s room p (to_part n q g)) (sym count) (give q p at)
-
 -- the first ones were looked at
 abbrev pub Looking : Shown → ℕ → ℕ → List PartReader → Graph → Type 0
 Looking s room n ps g = (q : ℕ) (p : PartReader) → slice_get ps q ≡ Some p → GivesVertices s room p (to_part (length ps) q g) × (q < n → p.head ≡ first_vid (to_part (length ps) q g))

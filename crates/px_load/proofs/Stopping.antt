@@ -1,5 +1,5 @@
 -- Why a load stopped, after calls that did not fail.
-use Rattle.std.proofs.Common.{◌≡◌, ℕ, Bool, false, refl, sym, subst}
+use Rattle.std.proofs.Common.{◌≡◌, ℕ, Bool, refl, sym, subst}
 use Rattle.std.specs.Prelude.{Option}
 use Rattle.px_meaning.specs.Graph.{Graph}
 use Rattle.px_meaning.specs.GraphText.{Offence, TextMeaning, Good}
@@ -49,16 +49,6 @@ stops_text n n' g s (texts.Bad line kind) rose same = record {
   source = same (λ is. absurd (cc is));
   graph = refl;
   scratch = refl;
-  graph_touches = touches_refl AnyFile g;
-  scratch_touches = touches_refl IsLoadFile s;
-}
-
--- the text is refused once it was read
-pub stops_none : (n : ℕ) (g s : Shown) (e : LoadStop) → is_source e ≡ false → is_graph e ≡ false → is_scratch e ≡ false → Stops n n g g s s e
-stops_none n g s e source graph scratch = record {
-  source = subst (λ (b : Bool). Counts b n n) (sym source) refl;
-  graph = subst (λ (b : Bool). Counts b g.faults g.faults) (sym graph) refl;
-  scratch = subst (λ (b : Bool). Counts b s.faults s.faults) (sym scratch) refl;
   graph_touches = touches_refl AnyFile g;
   scratch_touches = touches_refl IsLoadFile s;
 }

@@ -1,5 +1,5 @@
 -- The requests are grouped before anything is settled.
-use Rattle.std.proofs.Common.{◌≡◌, ℕ, List, [], ◌∷◌, ◌++◌, map, length, fold, sym, ◌∙◌, ap, refl}
+use Rattle.std.proofs.Common.{◌≡◌, ℕ, List, [], ◌∷◌, ◌++◌, length, fold, ◌∙◌, ap, refl}
 use Rattle.std.specs.Prelude.{Result, Ok, Err, OnOk, IfErr}
 use Rattle.px_core.specs.Shown.{Shown, Clean}
 use Rattle.px_core.specs.declared.stop.Stop.{Stop}
@@ -8,7 +8,7 @@ use Rattle.px_cache.specs.View.{AnyFile}
 use Rattle.px_meaning.specs.Graph.{Graph, lookup, vids, ascending}
 use Rattle.px_meaning.specs.Merge.{MergeLaws, Pairs, grouped}
 use Rattle.px_meaning.specs.Program.{ProgramMeaning}
-use Rattle.px_meaning.specs.Step.{put_all, settle, settled}
+use Rattle.px_meaning.specs.Step.{settle, settled}
 use Rattle.px_meaning.proofs.Ascending.{ascending-append_right}
 use Rattle.px_meaning.proofs.Grouping.{IsMap-grouped, vids-grouped, grouped-grouped, AllValid-grouped}
 use Rattle.px_pages.specs.Entry.{Entry}

@@ -1,8 +1,8 @@
 -- How many vids of a map are below a bound, and how many two maps name.
-use Rattle.std.proofs.Common.{◌≡◌, ◌≢◌, ◌≤◌, ◌<◌, ◌+◌, ℕ, suc, List, [], ◌∷◌, ◌++◌, length, Bool, true, false, ◌||◌, nat_lt, is_some, Option, Some, None, sym, ◌∙◌, ap, subst, refl, arith, inl, inr}
+use Rattle.std.proofs.Common.{◌≡◌, ◌≢◌, ◌≤◌, ◌<◌, ◌+◌, ℕ, suc, List, [], ◌∷◌, ◌++◌, length, Bool, true, false, ◌||◌, nat_lt, is_some, Option, None, sym, ◌∙◌, ap, subst, refl, arith, inl, inr}
 use Rattle.std.proofs.lemmas.Bool.{cases_order, cases_eq, lt-ltb, le-ltb, true≢false, false≢true}
 use Rattle.px_meaning.specs.Graph.{lookup, vids, place, ascending}
-use Rattle.px_meaning.proofs.Ascending.{has, place_below, place_here, place_past, has-first, has-rest, has-append, has-ascending, ascending_of_members, AllBelow}
+use Rattle.px_meaning.proofs.Ascending.{has, place_below, place_past, has-first, has-rest, has-append, has-ascending, ascending_of_members, AllBelow}
 use Rattle.px_meaning.proofs.Maps.{lookup_past, is_some-lookup}
 use Rattle.px_mutations.specs.Effects.{bit}
 

@@ -1,21 +1,21 @@
 -- What the calls of the store do to a vid.
-use Rattle.std.proofs.Common.{◌≡◌, ◌≤◌, ◌+◌, ℕ, suc, List, [], ◌∷◌, length, Bool, true, false, not, ◌||◌, ◌&&◌, is_some, Option, Some, None, IsTrue, sym, ◌∙◌, ap, subst, refl, arith, inl, inr}
+use Rattle.std.proofs.Common.{◌≡◌, ◌≤◌, ◌+◌, ℕ, suc, List, [], ◌∷◌, length, Bool, true, false, not, ◌||◌, ◌&&◌, is_some, Option, Some, None, sym, ◌∙◌, ap, subst, refl, arith, inl, inr}
 use Rattle.std.specs.Prelude.{if◌then◌else◌, IfSome}
 use Rattle.std.specs.Option.{option_or}
-use Rattle.std.proofs.lemmas.Bool.{cases_eq, ltb-true, true≢false, false≢true}
-use Rattle.px_meaning.specs.Graph.{Graph, Vertex, vertex_or_fresh, vertex_size, lookup, put, delete, IsMap}
+use Rattle.std.proofs.lemmas.Bool.{cases_eq, true≢false, false≢true}
+use Rattle.px_meaning.specs.Graph.{Graph, Vertex, vertex_size, lookup, put, delete, IsMap}
 use Rattle.px_meaning.specs.Program.{ProgramMeaning, Settlement, Keeps, Sets, Removes}
 use Rattle.px_meaning.specs.Step.{is_awake}
-use Rattle.px_meaning.proofs.Maps.{lookup_here, lookup_past, lookup_below, delete_here, delete_past, maps_equal, length-put_new, length-put_old}
-use Rattle.px_meaning.proofs.Settling.{settled_at, after_settle}
-use Rattle.px_program.specs.Calls.{Applies, is_too_wide}
+use Rattle.px_meaning.proofs.Maps.{lookup_past, lookup_below, delete_here, delete_past, maps_equal, length-put_new, length-put_old}
+use Rattle.px_meaning.proofs.Settling.{after_settle}
+use Rattle.px_program.specs.Calls.{Applies}
 use Rattle.px_program.specs.declared.program.Settled.{Settled}
-use Rattle.px_program.specs.declared.program.Settled.TheVariants.{Keep, Set, Remove}
+use Rattle.px_program.specs.declared.program.Settled.TheVariants.{Keep}
 use Rattle.px_record.specs.Held.{HeldVertex}
 use Rattle.px_mutations.specs.declared.turns.Turn.{Turn}
 use Rattle.px_mutations.specs.declared.effects.Effect.{Effect}
 use Rattle.px_mutations.specs.Turns.{given_if}
-use Rattle.px_mutations.specs.Effects.{placed, left_at, turned, settlement, outcome, IsFound, IsCarried, IsEffect, IsTooWide, bit}
+use Rattle.px_mutations.specs.Effects.{placed, left_at, settlement, outcome, IsFound, IsCarried, IsEffect, bit}
 use Rattle.px_mutations.proofs.Steps.{lookup-placed_same, lookup-placed_other, IsMap-placed}
 
 -- what is there already is placed again
@@ -87,14 +87,6 @@ same_effect e was v room x l m at size made = record {
 
 -- what was found of a vid
 
-pub found_update : (has was : Bool) (x : Vertex) (there : Option Vertex) → has ≡ true → was ≡ is_some there → IsFound there (given_if has x) was x
-found_update true was x there on is = record { is_there = is; vertex = refl }
-found_update false was x there on is = absurd (false≢true on)
-
-pub found_alone : (has was : Bool) (x y : Vertex) (there : Option Vertex) → has ≡ false → was ≡ is_some there → y ≡ vertex_or_fresh there → IsFound there (given_if has x) was y
-found_alone true was x y there off is vertex = absurd (true≢false off)
-found_alone false was x y there off is vertex = record { is_there = is; vertex = vertex }
-
 -- the vertex to settle
 found_is : (has was : Bool) (x y : Vertex) (there : Option Vertex) → IsFound there (given_if has x) was y → given_if (has || was) y ≡ option_or (given_if has x) there
 found_is true was x y there f = ap (λ (z : Vertex). Some z) f.vertex
@@ -136,19 +128,3 @@ carried_is p t was x bytes a b settled l f h = record {
       found_there was x a.vertex (lookup t.vid l) (subst (λ (k : Bool). IsFound (lookup t.vid l) (given_if k x) was a.vertex) off f)
       ∙ ap (given_if was) (sym (kept_same (settlement p t (t.has_update || was) a bytes) settled a b keep h));
 }
-
-wide_set : (room : ℕ) (what : Settlement) (o : Option Vertex) → IsTrue (is_too_wide room what) → IsTooWide room (after_settle what o)
-wide_set room Keeps o wide = absurd (false≢true wide)
-wide_set room (Sets x) o wide = ltb-true room (vertex_size x) wide
-wide_set room Removes o wide = absurd (false≢true wide)
-
--- a vertex that is set too wide is what the turn leaves
-pub wide_left : (p : ProgramMeaning) (room : ℕ) (t : Turn) (was : Bool) (x : Vertex) (bytes : List ℕ) (a : HeldVertex) (l : Graph) → a.vid ≡ t.vid → IsFound (lookup t.vid l) (given_if t.has_update x) was a.vertex
-    → IsTrue (is_too_wide room (settlement p t (t.has_update || was) a bytes)) → IsTooWide room (left_at p t.vid (given_if t.has_update x) (given_if t.has_verdict bytes) l)
-wide_left p room t was x bytes a l vid f wide =
-    by_verdict t.has_verdict (found_is t.has_update was x a.vertex (lookup t.vid l) f) (subst (λ (n : ℕ). IsTrue (is_too_wide room (if t.has_verdict then p.settle_of n (given_if (t.has_update || was) a.vertex) bytes else Keeps))) vid wide)
-  where
-    by_verdict : (has : Bool) → given_if (t.has_update || was) a.vertex ≡ option_or (given_if t.has_update x) (lookup t.vid l) → IsTrue (is_too_wide room (if has then p.settle_of t.vid (given_if (t.has_update || was) a.vertex) bytes else Keeps))
-        → IsTooWide room (left_at p t.vid (given_if t.has_update x) (given_if has bytes) l)
-    by_verdict true o wide = subst (λ (k : Option Vertex). IsTooWide room (after_settle (p.settle_of t.vid k bytes) k)) o (wide_set room (p.settle_of t.vid (given_if (t.has_update || was) a.vertex) bytes) (given_if (t.has_update || was) a.vertex) wide)
-    by_verdict false o wide = absurd (false≢true wide)

@@ -6,7 +6,7 @@ use Rattle.std.proofs.lemmas.Bool.{OnTrue_at, OnTrue_from, and_parts, or_left, o
 use Rattle.px_meaning.specs.Graph.{Graph, Vertex, IsMap, vids, ascending}
 use Rattle.px_meaning.specs.Merge.{Pairs, AllValid}
 use Rattle.px_meaning.specs.Program.{ProgramMeaning}
-use Rattle.px_meaning.specs.Step.{put_all, settled, has_wide_vertex, has_wide_fold, has_many_vertices}
+use Rattle.px_meaning.specs.Step.{put_all, settled}
 use Rattle.px_meaning.proofs.Ascending.{has, has-first, has-append, has-ascending}
 use Rattle.px_meaning.proofs.Settling.{IsMap-put_all, IsMap-settled}
 use Rattle.px_pages.specs.Entry.{Entry}

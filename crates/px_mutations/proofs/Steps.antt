@@ -1,5 +1,5 @@
 -- Vids are settled one at a time, ascending.
-use Rattle.std.proofs.Common.{◌≡◌, ◌≢◌, ◌≤◌, ◌<◌, ◌+◌, ◌-◌, ◌^◌, ℕ, suc, min, List, [], ◌∷◌, ◌++◌, length, filter, map, Bool, true, false, not, ◌||◌, ◌&&◌, nat_lt, ◌==◌, is_some, Option, Some, None, IsTrue, sym, ◌∙◌, ap, subst, refl, arith, inl, inr}
+use Rattle.std.proofs.Common.{◌≡◌, ◌≢◌, ◌≤◌, ◌<◌, ◌+◌, ◌-◌, ◌^◌, ℕ, suc, List, [], ◌∷◌, ◌++◌, length, filter, Bool, true, false, not, ◌||◌, ◌&&◌, nat_lt, ◌==◌, is_some, Option, Some, None, sym, ◌∙◌, ap, subst, refl, arith, inl, inr}
 use Rattle.std.specs.Prelude.{IfSome, if◌then◌else◌}
 use Rattle.std.specs.Option.{option_or}
 use Rattle.std.proofs.lemmas.Bool.{cond-true, cond-false, cases_eq, cases_order, cases_Bool, lt-ltb, le-ltb, ltb-false, or_right, true≢false, false≢true}
@@ -8,12 +8,12 @@ use Rattle.std.proofs.lemmas.List.{length-append}
 use Rattle.px_meaning.specs.Graph.{Graph, Vertex, vertex_size, lookup, vids, ascending, IsMap, IsAscending, AllAbove}
 use Rattle.px_meaning.specs.Merge.{Pairs}
 use Rattle.px_meaning.specs.Program.{ProgramMeaning}
-use Rattle.px_meaning.specs.Step.{put_all, settled, is_awake, is_wide, has_wide_vertex}
+use Rattle.px_meaning.specs.Step.{put_all, settled, is_awake, has_wide_vertex}
 use Rattle.px_meaning.proofs.Ascending.{has, AllBelow, has-append, has-first, has-rest, IsAscending-push, ascending_from_members}
 use Rattle.px_meaning.proofs.Inbox.{inbox_of_map}
 use Rattle.px_meaning.proofs.Limits.{wide_from_lookup, fits_at_lookup, fits_from_lookups}
 use Rattle.px_meaning.proofs.Maps.{lookup_here, lookup_past, lookup_below, lookup-put_same, lookup-put_other, lookup-delete_same, lookup-delete_other, IsMap-put, IsMap-delete, maps_equal}
-use Rattle.px_meaning.proofs.Settling.{settled_at, lookup-put_all, lookup-settled, IsMap-put_all, IsMap-settled}
+use Rattle.px_meaning.proofs.Settling.{settled_at, lookup-put_all, lookup-settled}
 use Rattle.px_mutations.specs.declared.effects.Effect.{Effect}
 use Rattle.px_mutations.specs.declared.effects.Counts.{Counts}
 use Rattle.px_mutations.specs.Turns.{Takes, with_vid}

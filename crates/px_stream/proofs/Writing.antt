@@ -1,8 +1,8 @@
 -- Tuples are taken, page by page.
 use Rattle.std.proofs.Common.{◌≡◌, ℕ, ◌+◌, ◌<◌, ◌≤◌, List, [], ◌∷◌, ◌++◌, length, take, drop, sym, ◌∙◌, ap, subst, arith, append_assoc}
-use Rattle.std.proofs.lemmas.List.{append-nil, length-append, drop_all}
+use Rattle.std.proofs.lemmas.List.{append-nil, length-append}
 use Rattle.std.proofs.Math.Seq.{take-length}
-use Rattle.px_core.specs.Shown.{Shown, Touches, HasRoom, written, Tells, TellsPages}
+use Rattle.px_core.specs.Shown.{Shown, Touches, HasRoom, written, Tells}
 use Rattle.std.specs.Option.{option_map}
 use Rattle.px_core.proofs.Pages.{written_end, drop_push}
 use Rattle.px_core.proofs.Telling.{tells_written}
@@ -82,22 +82,4 @@ took_all a w l empty k =
       tuples = k.tuples ∙ ap (λ (h : List Entry). all_tuples (drop w.first k.told) ++ h) empty ∙ append-nil (all_tuples (drop w.first k.told))
           ∙ ap (λ (ps : List (List ℕ)). all_tuples (drop w.first ps)) (sym all);
       fit = k.fit;
-    }
-
--- the pages of the file are those before the next
-pub took_pages : (a : Shown) (w : WriterView) (l : List Entry) → Took a w l → TellsPages a w.file w.pages
-took_pages a w l k = record { told = k.told; tells = k.tells; end = k.end }
-
--- behind all pages of a file nothing was taken yet
-pub took_none : (a : Shown) (w v : WriterView) → v.file ≡ w.file → v.first ≡ v.pages → v.here ≡ [] → TellsPages a w.file v.pages → Took a v []
-took_none a w v file first empty k =
-    let none : drop v.first k.told ≡ [] = drop_all v.first k.told (omega (arith, first, k.end)) in
-    record {
-      told = k.told;
-      tells = subst (λ (f : ℕ). Tells a f k.told) (sym file) k.tells;
-      end = k.end;
-      within = omega (arith, first);
-      made = subst (AreStreamPages a.page_len) (sym none) tt;
-      tuples = sym (ap (λ (ps : List (List ℕ)). all_tuples ps ++ v.here) none ∙ empty);
-      fit = tt;
     }

@@ -1,6 +1,6 @@
 -- The parts of a superstep lead from a state to the next, or to none.
-use Rattle.std.proofs.Common.{◌≡◌, ◌<◌, ◌≤◌, ◌+◌, ◌^◌, ℕ, zero, suc, true, false, List, [], length, sym, ◌∙◌, ap, subst, refl, arith, ◌⊎◌, inl, inr}
-use Rattle.std.specs.Prelude.{◌%◌, Bool, None, flat_map, IsTrue, slice_get, Some}
+use Rattle.std.proofs.Common.{◌≡◌, ◌<◌, ◌≤◌, ◌+◌, ◌^◌, ℕ, suc, true, false, List, [], length, sym, ◌∙◌, ap, subst, refl, arith, ◌⊎◌, inl, inr}
+use Rattle.std.specs.Prelude.{◌%◌, Bool, None, flat_map}
 use Rattle.px_core.specs.Parts.{to_part, all_of}
 use Rattle.px_core.specs.Shown.{Shown, Touches}
 use Rattle.px_connectors.specs.Asking.{IsRequestFile, requests}
@@ -13,7 +13,7 @@ use Rattle.px_stream.specs.Stream.{Holds}
 use Rattle.px_store.specs.Joins.{message_tuples, vertex_tuples}
 use Rattle.px_global_state.specs.declared.gs.Gs.{Gs}
 use Rattle.px_global_state.specs.declared.part.Part.{Part}
-use Rattle.px_mutations.specs.Applying.{settled_after, IsTally, IsReadyToSettle}
+use Rattle.px_mutations.specs.Applying.{IsTally}
 use Rattle.px_mutations.specs.declared.applying.Tally.{Tally}
 use Rattle.px_superstep.specs.Files.{msg_file, vid_file, update_file, IsDeliveryFile, IsSettlingFile}
 use Rattle.px_superstep.specs.Parting.{times}

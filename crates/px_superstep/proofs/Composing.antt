@@ -1,20 +1,19 @@
 -- What all partitions compute and settle is what the superstep does.
-use Rattle.std.proofs.Common.{◌≡◌, ◌<◌, ◌≤◌, ◌+◌, ℕ, zero, suc, List, [], ◌∷◌, ◌++◌, length, map, filter, Bool, true, false, IsPermutation, IsTrue, sym, ◌∙◌, ap, subst, refl, inl, inr, arith}
-use Rattle.std.specs.Prelude.{flat_map, ◌==◌, Option, Some, None}
+use Rattle.std.proofs.Common.{◌≡◌, ◌<◌, ◌≤◌, ◌+◌, ℕ, zero, suc, List, [], ◌∷◌, ◌++◌, map, filter, Bool, IsPermutation, sym, ◌∙◌, ap, subst, refl, inl, inr, arith}
+use Rattle.std.specs.Prelude.{flat_map, ◌==◌, None}
 use Rattle.std.specs.List.{AllByRecursion}
 use Rattle.std.specs.Option.{option_or}
-use Rattle.std.proofs.lemmas.Bool.{cases_Bool, cases_eq, cond_both, and_from}
+use Rattle.std.proofs.lemmas.Bool.{cases_Bool, cases_eq, cond_both}
 use Rattle.std.proofs.lemmas.Grind.{flat_map-append}
 use Rattle.std.proofs.lemmas.List.{append-nil}
 use Rattle.std.proofs.lemmas.List.Folds.{flat_map-map}
 use Rattle.px_core.specs.Parts.{to_part, upto, all_of}
 use Rattle.px_core.specs.Partition.{partition_of}
 use Rattle.px_core.proofs.Partition.{partition_of-lt}
-use Rattle.px_meaning.specs.Graph.{Graph, Vertex, IsMap, lookup}
-use Rattle.px_meaning.specs.Merge.{MergeRule, MergeLaws, Pairs, AllValid, IsValidMessage, inbox, grouped}
-use Rattle.px_meaning.specs.Program.{ProgramMeaning, ProgramLaws, Moment, Row, Out}
+use Rattle.px_meaning.specs.Graph.{IsMap, lookup}
+use Rattle.px_meaning.specs.Merge.{Pairs, AllValid, IsValidMessage, inbox, grouped}
+use Rattle.px_meaning.specs.Program.{ProgramMeaning, ProgramLaws, Row, Out}
 use Rattle.px_meaning.specs.Step.{State, moment, is_active, row_at, rows, outs, computed, put_all, settled}
-use Rattle.px_meaning.proofs.Ascending.{has}
 use Rattle.px_meaning.proofs.Maps.{maps_equal}
 use Rattle.px_meaning.proofs.MapParts.{IsMap-filter, lookup-filter_on, lookup-filter_off}
 use Rattle.px_meaning.proofs.Inbox.{AllValid-append, inbox_valid}
@@ -27,7 +26,7 @@ use Rattle.px_meaning.proofs.Steps.{graph_before, graph_after}
 use Rattle.px_store.specs.Joins.{rows_in}
 use Rattle.px_superstep.specs.Parting.{times}
 use Rattle.px_superstep.specs.Partial.{graph_at, messages_at, computed_at, rows_at}
-use Rattle.px_superstep.proofs.Parting.{by_parts, flat_agree, perm_same, times-append, times_here, times_past}
+use Rattle.px_superstep.proofs.Parting.{by_parts, flat_agree, times-append, times_here, times_past}
 use Rattle.px_superstep.proofs.PartRows.{rows_of_part, changes_of_part}
 
 -- every number below the bound stands once among those up to it

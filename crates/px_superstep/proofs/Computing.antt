@@ -1,7 +1,6 @@
 -- The files of one partition's compute phase, and the rows that it begins with.
-use Rattle.std.proofs.Common.{◌≡◌, ◌≢◌, ◌<◌, ◌≤◌, ◌⊎◌, ℕ, ◌+◌, Bool, true, false, List, [], ◌∷◌, ◌++◌, map, filter, Option, Some, None, sym, ◌∙◌, ap, subst, refl, arith, inl, inr}
-use Rattle.std.specs.Prelude.{◌==◌, IsTrue, if◌then◌else◌}
-use Rattle.std.specs.List.{AllByRecursion}
+use Rattle.std.proofs.Common.{◌≡◌, ◌≢◌, ◌<◌, ◌≤◌, ◌⊎◌, ℕ, ◌+◌, Bool, true, false, List, [], ◌∷◌, ◌++◌, map, filter, Some, ◌∙◌, subst, arith, inl, inr}
+use Rattle.std.specs.Prelude.{◌==◌, if◌then◌else◌}
 use Rattle.std.proofs.lemmas.Bool.{and_parts}
 use Rattle.px_core.specs.Same.{Same, Apart}
 use Rattle.px_core.specs.Shown.{Shown, Only, NoFile, Clean, Worked, Touches}
@@ -14,19 +13,15 @@ use Rattle.px_meaning.specs.Step.{is_active}
 use Rattle.px_program.specs.Groups.{GroupMade, IsOwn}
 use Rattle.px_connectors.specs.Asking.{IsRequestFile, RequestsView, Asked}
 use Rattle.px_connectors.specs.Frames.{asked_same}
-use Rattle.px_connectors.specs.Views.{IsSenderFile, IsConnectorFile}
+use Rattle.px_connectors.specs.Views.{IsSenderFile}
 use Rattle.px_stream.specs.Stream.{Took}
 use Rattle.px_stream.specs.Views.{WriterView}
 use Rattle.px_stream.proofs.Kept.{took_same, has_same}
 use Rattle.px_pages.specs.Entry.{Entry}
 use Rattle.px_store.specs.Joins.{IsInput, AreInputs, rows_in, message_tuples, vid_tuples}
 use Rattle.px_store.specs.declared.join.Inputs.{Inputs}
-use Rattle.px_compute_op.specs.Phase.{AreApart, IsPhaseFile, OrInput, HaveValidMessages}
+use Rattle.px_compute_op.specs.Phase.{IsPhaseFile, OrInput, HaveValidMessages}
 use Rattle.px_superstep.specs.Files.{IsSpareFile, IsComputeFile, AreInputFiles, update_file}
-
-input_high : (ins : Inputs) → AreInputFiles ins → (f : ℕ) → IsInput ins f → 16 ≤ f
-input_high ins are f (inl is) = let low = are.msg.low in omega (arith, low, is)
-input_high ins are f (inr is) = let low = are.vid.low in omega (arith, low, is)
 
 input_low : (ins : Inputs) → AreInputFiles ins → (f : ℕ) → IsInput ins f → f < 128
 input_low ins are f (inl is) = let high = are.msg.high in omega (arith, high, is)
@@ -46,19 +41,6 @@ module _ (made : GroupMade) (q u : ℕ) (first : made.first ≡ 2) (second : mad
   phase_file sender is f (inl (inl (inr r))) = inr (inl r)
   phase_file sender is f (inl (inr at)) = inr (inr (inl (at ∙ update)))
   phase_file sender is f (inr s) = inr (inr (inr (subst (λ (p : ℕ). IsSenderFile p f) is s)))
-
-  -- its files are different ones
-  pub are_apart : q < 16 → (ins : Inputs) → AreInputFiles ins → AreApart made u ins
-  are_apart few ins are = record {
-    group_requests = λ f own r. absurd (let low = (own_spare f own).low in let high = r.low in omega (arith, low, high));
-    group_senders = λ f own s. absurd (let low = (own_spare f own).low in let high = s.low in omega (arith, low, high));
-    group_updates = λ own. absurd (let low = (own_spare u own).low in omega (arith, low, update));
-    updates_requests = λ r. absurd (let low = r.low in omega (arith, low, update, few));
-    updates_senders = λ s. absurd (let low = s.low in omega (arith, low, update, few));
-    inputs_group = λ f i own. absurd (let low = (own_spare f own).low in let high = input_high ins are f i in omega (arith, low, high));
-    inputs_requests = λ f i r. absurd (let low = r.low in let high = input_low ins are f i in omega (arith, low, high));
-    inputs_updates = λ i. absurd (let high = input_low ins are u i in omega (arith, high, update));
-  }
 
 pub input_sender : (ins : Inputs) → AreInputFiles ins → (q : ℕ) → Apart (IsInput ins) (IsSenderFile q)
 input_sender ins are q f (inl is) s = absurd (let high = are.msg.high in let low = s.low in omega (arith, high, low, is))

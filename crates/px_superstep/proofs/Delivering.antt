@@ -3,9 +3,9 @@ use Rattle.std.proofs.Common.{◌≡◌, ◌<◌, ◌≤◌, ◌+◌, ℕ, List,
 use Rattle.px_core.specs.Shown.{Shown, Touches}
 use Rattle.px_pages.specs.Entry.{Entry}
 use Rattle.px_stream.specs.Stream.{Holds}
-use Rattle.px_superstep.specs.Files.{msg_file, vid_file, update_file, IsMsgFile, IsVidFile, IsDeliveryFile, IsSettlingFile, IsResultFile, IsStepFile}
+use Rattle.px_superstep.specs.Files.{msg_file, vid_file, IsMsgFile, IsVidFile, IsDeliveryFile, IsSettlingFile, IsResultFile, IsStepFile}
 use Rattle.px_superstep.specs.Phases.{Each}
-use Rattle.px_superstep.proofs.Slices.{each_set, below}
+use Rattle.px_superstep.proofs.Slices.{each_set}
 use Rattle.px_superstep.proofs.Standing.{holds_kept}
 
 pub msg_is : (parity q : ℕ) → parity < 2 → q < 16 → IsMsgFile (msg_file parity q)

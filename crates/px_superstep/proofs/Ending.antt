@@ -1,5 +1,5 @@
 -- Why a superstep stopped, after calls that did not fail.
-use Rattle.std.proofs.Common.{◌≡◌, ℕ, sym, ◌∙◌, refl, subst}
+use Rattle.std.proofs.Common.{◌≡◌, ℕ, sym, ◌∙◌, subst}
 use Rattle.px_core.specs.Counts.{Rose}
 use Rattle.px_core.specs.Shown.{Shown, Clean, Broke}
 use Rattle.px_core.specs.declared.stop.Stop.{Stop}

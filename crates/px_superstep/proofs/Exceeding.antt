@@ -1,6 +1,6 @@
 -- What is beyond the limits in one partition is so in the step.
-use Rattle.std.proofs.Common.{◌≡◌, ◌<◌, ◌≤◌, ◌+◌, ◌^◌, ℕ, zero, suc, List, [], ◌∷◌, ◌++◌, length, filter, Bool, true, false, IsPermutation, IsTrue, sym, ◌∙◌, ap, subst, refl, inl, inr, arith}
-use Rattle.std.specs.Prelude.{◌==◌, ◌||◌, flat_map, nat_lt, Option, Some, None}
+use Rattle.std.proofs.Common.{◌≡◌, ◌<◌, ◌≤◌, ◌+◌, ◌^◌, ℕ, zero, suc, List, [], ◌∷◌, ◌++◌, length, filter, Bool, true, IsPermutation, sym, ◌∙◌, ap, subst, refl, inl, inr, arith}
+use Rattle.std.specs.Prelude.{◌==◌, ◌||◌, flat_map, nat_lt, None}
 use Rattle.std.specs.List.{list_any}
 use Rattle.std.specs.Option.{option_or}
 use Rattle.std.proofs.lemmas.Bool.{cases_Bool, cases_eq, cond-true, cond_both, or_cases, or_left, or_right, ltb-true, lt-ltb, false≢true}

@@ -1,5 +1,5 @@
 -- One delivery: its files, what is sent to it, and what its tools give back.
-use Rattle.std.proofs.Common.{◌≡◌, ◌<◌, ◌+◌, ℕ, Bool, List, [], ◌∷◌, ◌++◌, filter, length, sym, ◌∙◌, ap, subst, refl, arith, inl, inr}
+use Rattle.std.proofs.Common.{◌≡◌, ◌<◌, ◌+◌, ℕ, Bool, List, [], ◌∷◌, ◌++◌, filter, sym, ◌∙◌, ap, subst, refl, arith, inl, inr}
 use Rattle.std.specs.Prelude.{◌==◌, flat_map}
 use Rattle.std.proofs.lemmas.List.Elements.{filter-append}
 use Rattle.px_core.specs.Counts.{Rose}
@@ -12,19 +12,16 @@ use Rattle.px_core.specs.declared.stop.Stop.TheVariants.{Scratch}
 use Rattle.px_core.proofs.Pages.{touches_then, touches_more}
 use Rattle.px_core.proofs.Steps.{clean_of, clean_more, clean_then}
 use Rattle.px_frames.specs.Banks.{BankView}
-use Rattle.px_frames.specs.Shares.{ShareView}
-use Rattle.px_meaning.specs.Graph.{room_of}
 use Rattle.px_meaning.specs.Merge.{MergeRule, Pairs, AllValid}
 use Rattle.px_program.specs.Groups.{GroupMade, made_of, IsOwn, StopsGrouping}
 use Rattle.px_connectors.specs.Files.{OwnOr, OwnOrConnector}
 use Rattle.px_connectors.specs.Views.{IsSenderFile, IsConnectorFile}
-use Rattle.px_superstep.specs.Gathering.{AreGatherTools, AreGatherToolsFor, SameGatherTools, CanGiveBack, AreGivenBack}
+use Rattle.px_superstep.specs.Gathering.{AreGatherTools, SameGatherTools}
 use Rattle.px_superstep.specs.Files.{IsMsgFile, IsResultFile, IsStepFile}
-use Rattle.px_superstep.specs.Lending.{IsShareOf, IsLent, IsEnough}
+use Rattle.px_superstep.specs.Lending.{IsLent}
 use Rattle.px_superstep.specs.declared.benches.Lent.{Lent}
 use Rattle.px_superstep.specs.declared.gather.GatherTools.{GatherTools}
 use Rattle.px_superstep.proofs.Phases.{valid_filter}
-use Rattle.px_superstep.proofs.Tooling.{again}
 
 -- what is kept of all is what is kept of each
 filter-flat_map : {X Y : Type 0} (test : Y → Bool) (f : X → List Y) (xs : List X) → flat_map (λ x. filter test (f x)) xs ≡ filter test (flat_map f xs)
@@ -91,43 +88,7 @@ grouping_broke mine more TooMuch s0 s1 s2 e sub sc h = record {
   touches = touches_then more s0 s1 s2 sc.touches (touches_more mine more s1 s2 sub h.touches);
 }
 
--- they are the tools for pages as long as the frames that were lent
-pub gather_tools_for : {G : Type 0} (made : G → GroupMade) (to len : ℕ) (lent : Lent) (t : GatherTools G) → IsEnough lent → AreGatherTools made to lent t → lent.work.frame_len ≡ len → AreGatherToolsFor made len t
-gather_tools_for made to len lent t enough are is = record {
-  group_len = ap (λ (m : GroupMade). m.frame_len) are.group ∙ enough.group_len ∙ is;
-  writer_len = are.writer_len ∙ is;
-  limit = are.limit ∙ ap room_of is;
-  first = ap (λ (m : GroupMade). m.first) are.group;
-  second = ap (λ (m : GroupMade). m.second) are.group;
-}
-
 module _ {G : Type 0} (made : G → GroupMade) (to : ℕ) (b : BankView) (lent : Lent) (t t' : GatherTools G)
     (of : IsLent b lent) (are : AreGatherTools made to lent t) (same : SameGatherTools made t t') where
   made_is : made t'.group ≡ made_of lent.group lent.table 2 3
   made_is = same.group ∙ are.group
-
-  pub can_give_back : IsEnough lent → CanGiveBack t'
-  can_give_back enough =
-      let work_left : length t'.work.frames ≡ length t.work.frames = ap (λ (s : ShareView). length s.frames) same.work in
-      let work_size : t'.work.size ≡ lent.work.size = ap (λ (s : ShareView). s.size) same.work ∙ are.work.size in
-      let streams_left : length t'.streams.frames ≡ length t.streams.frames = ap (λ (s : ShareView). length s.frames) same.streams in
-      let streams_size : t'.streams.size ≡ lent.streams.size = ap (λ (s : ShareView). s.size) same.streams ∙ are.streams.size in
-      record {
-        buf = same.buf.frame_len ∙ are.buf_len ∙ sym are.work.frame_len ∙ sym (ap (λ (s : ShareView). s.frame_len) same.work);
-        writer = same.writer_len ∙ are.writer_len ∙ sym enough.streams_len ∙ sym are.streams.frame_len ∙ sym (ap (λ (s : ShareView). s.frame_len) same.streams);
-        work = omega (arith, work_left, work_size, are.work.frames, of.work.full);
-        streams = omega (arith, streams_left, streams_size, are.streams.frames, of.streams.full);
-      }
-
-  pub given_back_is_lent : (lent' : Lent) → AreGivenBack made t' lent' → IsLent b lent'
-  given_back_is_lent lent' back = record {
-    work = again b 0 1 lent.work t.work t'.work lent'.work of.work are.work same.work back.work;
-    join = subst (IsShareOf b 1) (sym (back.join ∙ same.join ∙ are.join)) of.join;
-    streams = again b 2 1 lent.streams t.streams t'.streams lent'.streams of.streams are.streams same.streams back.streams;
-    group = record {
-      size = back.group_size ∙ ap (λ (m : GroupMade). m.size) made_is ∙ of.group.size;
-      frame_len = back.group_len ∙ ap (λ (m : GroupMade). m.frame_len) made_is ∙ of.group.frame_len;
-      full = back.group_frames ∙ ap (λ (m : GroupMade). m.frames) made_is ∙ of.group.full ∙ sym (back.group_size ∙ ap (λ (m : GroupMade). m.size) made_is);
-    };
-    table = back.table ∙ ap (λ (m : GroupMade). m.capacity) made_is ∙ of.table;
-  }

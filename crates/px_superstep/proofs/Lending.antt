@@ -1,8 +1,8 @@
 -- What is lent of the bank comes back.
-use Rattle.std.proofs.Common.{◌≡◌, ◌≢◌, ℕ, ◌<◌, ◌≤◌, Bool, List, length, map, true, false, set, sym, ap, ◌∙◌, refl, arith, inl, inr}
+use Rattle.std.proofs.Common.{◌≡◌, ◌≢◌, ℕ, ◌<◌, ◌≤◌, Bool, length, true, false, sym, ap, ◌∙◌, refl, arith, inl, inr}
 use Rattle.std.proofs.lemmas.Bool.{cases_eq}
 use Rattle.std.proofs.lemmas.List.{length-set}
-use Rattle.px_frames.specs.Banks.{SlotView, BankView, slot_at, is_home, size_of, with_home, with_table}
+use Rattle.px_frames.specs.Banks.{SlotView, BankView, size_of, with_home, with_table}
 use Rattle.px_frames.proofs.BankLaws.{slot_at-with_home_same, slot_at-with_home_other, with_home-with_home_same, with_home_stays}
 use Rattle.px_superstep.specs.Benches.{HasBench, HasSlot}
 use Rattle.px_superstep.specs.Lending.{bench_out, bench_home, IsBenchOut, IsOut}

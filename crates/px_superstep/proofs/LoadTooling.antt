@@ -1,17 +1,17 @@
 -- What a load works with comes home.
-use Rattle.std.proofs.Common.{◌≡◌, ◌≢◌, ◌≤◌, ◌<◌, ℕ, ◌+◌, Bool, true, false, List, length, Option, Some, None, sym, ◌∙◌, ap, arith, refl, subst}
-use Rattle.px_frames.specs.Banks.{BankView, size_of, is_home, with_home, with_table}
+use Rattle.std.proofs.Common.{◌≡◌, ◌≢◌, ◌≤◌, ◌<◌, ℕ, ◌+◌, Bool, false, List, length, Option, Some, None, sym, ◌∙◌, ap, arith, subst}
+use Rattle.px_frames.specs.Banks.{BankView, size_of, with_home}
 use Rattle.px_frames.specs.Shares.{ShareView}
 use Rattle.px_frames.specs.Tables.{TableView}
 use Rattle.px_meaning.specs.Graph.{room_of}
-use Rattle.px_load.specs.Frames.{AreLoadFrames, SameLoadFrames, HasFrame, SameText}
-use Rattle.px_superstep.specs.Benches.{HasBench, HasSlot}
-use Rattle.px_superstep.specs.Lending.{bench_out, IsOut, IsBenchOut, IsShareOf, IsLent, IsEnough}
+use Rattle.px_load.specs.Frames.{AreLoadFrames, HasFrame, SameText}
+use Rattle.px_superstep.specs.Benches.{HasSlot}
+use Rattle.px_superstep.specs.Lending.{bench_out, IsBenchOut, IsShareOf, IsLent, IsEnough}
 use Rattle.px_superstep.specs.Tooling.{IsShort}
 use Rattle.px_superstep.specs.LoadTooling.{IsLoadOut, HasLen, AreLoadTools, IsRestOf, AreLentTools, IsUnloaded}
 use Rattle.px_superstep.specs.declared.benches.Lent.{Lent}
 use Rattle.px_superstep.specs.declared.load_tools.LoadTools.{LoadTools}
-use Rattle.px_superstep.proofs.Lending.{still_home, still_out, is_out, size_stays, out_sizes}
+use Rattle.px_superstep.proofs.Lending.{still_home, still_out, is_out, size_stays}
 
 -- the slot of messages is home beside what is lent
 pub messages_home : (b : BankView) (n : ℕ) → HasSlot b 3 n → HasSlot (bench_out b) 3 n
@@ -101,17 +101,3 @@ same_len : (n : ℕ) (old new : Option (List ℕ)) → SameText old new → HasL
 same_len n None new same h = absurd h
 same_len n (Some old) None same h = same
 same_len n (Some old) (Some new) same h = same ∙ h
-
--- the tools still have them after a load
-pub still_lent : (b : BankView) (t t' : LoadTools) → AreLentTools b t → SameLoadFrames t.frames t'.frames → t'.work ≡ t.work → t'.join ≡ t.join → t'.streams ≡ t.streams → AreLentTools b t'
-still_lent b t t' of same work join streams = record {
-  runs = record { size = same.runs.size ∙ of.runs.size; frame_len = same.runs.frame_len ∙ of.runs.frame_len; full = same.runs.frames ∙ of.runs.full ∙ sym same.runs.size };
-  table = same.table ∙ of.table;
-  outs = record { size = same.outs.size ∙ of.outs.size; frame_len = same.outs.frame_len ∙ of.outs.frame_len; full = same.outs.frames ∙ of.outs.full ∙ sym same.outs.size };
-  text = same_len b.frame_len t.frames.text t'.frames.text same.text of.text;
-  vertex = same.vertex.frame_len ∙ of.vertex;
-  body = same.body.frame_len ∙ of.body;
-  join = subst (IsShareOf b 1) (sym join) of.join;
-  work = subst (IsRestOf b 0 2) (sym work) of.work;
-  streams = subst (IsRestOf b 2 1) (sym streams) of.streams;
-}

@@ -12,11 +12,9 @@ use Rattle.px_meaning.specs.Graph.{Graph, room_of}
 use Rattle.px_meaning.specs.GraphText.{Good, graph_of}
 use Rattle.px_meaning.specs.Meaning.{first_state}
 use Rattle.px_meaning.specs.Program.{ProgramMeaning}
-use Rattle.px_global_state.specs.States.{IsGs}
 use Rattle.px_global_state.specs.declared.gs.Gs.{Gs}
 use Rattle.px_load.specs.Loading.{HoldGraph}
 use Rattle.px_load.specs.Stops.{IsLoadFile}
-use Rattle.px_mutations.specs.Applying.{IsTally}
 use Rattle.px_mutations.specs.declared.applying.Tally.{Tally}
 use Rattle.px_superstep.specs.Counting.{AreCounted, no_tally}
 use Rattle.px_superstep.specs.Files.{msg_file}

@@ -1,13 +1,13 @@
 -- What all partitions left stands for the next state.
-use Rattle.std.proofs.Common.{◌≡◌, ◌<◌, ◌≤◌, ◌+◌, ◌^◌, ℕ, suc, List, [], ◌∷◌, ◌++◌, length, filter, fold, Bool, true, false, not, IsPermutation, sym, ◌∙◌, ap, subst, refl, inl, inr, arith}
-use Rattle.std.specs.Prelude.{◌==◌, ◌%◌, flat_map, Some, is_some, nat_lt, slice_get}
+use Rattle.std.proofs.Common.{◌≡◌, ◌<◌, ◌≤◌, ◌+◌, ◌^◌, ℕ, suc, List, [], ◌∷◌, ◌++◌, length, filter, fold, Bool, true, false, not, sym, ◌∙◌, ap, subst, inl, inr, arith}
+use Rattle.std.specs.Prelude.{◌==◌, ◌%◌, flat_map, is_some, nat_lt}
 use Rattle.std.specs.List.{list_any}
 use Rattle.std.proofs.lemmas.Bool.{or_from, or_parts, or_left, le-ltb, cond-false, cases_Bool, false≢true}
 use Rattle.std.proofs.lemmas.List.Sorted.{length_permutation, IsPermutation-sym}
 use Rattle.px_core.specs.Parts.{to_part, all_of, upto}
-use Rattle.px_core.specs.Shown.{Shown, Touches}
-use Rattle.px_meaning.specs.Graph.{Graph, Vertex, IsMap, lookup, pair_size}
-use Rattle.px_meaning.specs.Merge.{MergeRule, Pairs, AllValid, grouped}
+use Rattle.px_core.specs.Shown.{Shown}
+use Rattle.px_meaning.specs.Graph.{Graph, IsMap, lookup, pair_size}
+use Rattle.px_meaning.specs.Merge.{Pairs, AllValid, grouped}
 use Rattle.px_meaning.specs.Program.{ProgramMeaning, ProgramLaws}
 use Rattle.px_meaning.specs.Step.{State, has_wide_vertex, has_wide_fold, has_many_vertices, are_beyond}
 use Rattle.px_meaning.proofs.Rearranged.{grouped-IsPermutation, AllValid-IsPermutation}
@@ -18,7 +18,6 @@ use Rattle.px_meaning.specs.Phase.{computed_from}
 use Rattle.px_meaning.proofs.Steps.{graph_before, graph_after, next_state, steps_beyond}
 use Rattle.px_stream.specs.Stream.{Holds}
 use Rattle.px_store.specs.Joins.{message_tuples, vid_tuples}
-use Rattle.px_load.specs.Loading.{HoldGraph}
 use Rattle.px_global_state.specs.declared.gs.Gs.{Gs}
 use Rattle.px_global_state.specs.declared.part.Part.{Part}
 use Rattle.px_mutations.specs.Applying.{is_settling_beyond, IsTally, IsReadyToSettle}
@@ -35,7 +34,7 @@ use Rattle.px_superstep.specs.Files.{msg_file, vid_file, IsDeliveryFile, IsSettl
 use Rattle.px_superstep.specs.Phases.{Each, IsTotal}
 use Rattle.px_superstep.specs.Parting.{times}
 use Rattle.px_superstep.specs.Partial.{graph_at, messages_at, computed_at, after_at}
-use Rattle.px_superstep.specs.Steps.{StandsFor, StandsForNext, IsSettled, IsSum}
+use Rattle.px_superstep.specs.Steps.{StandsForNext, IsSettled, IsSum}
 use Rattle.px_superstep.proofs.Composing.{upto_once, all_valid, sends_all, requests_all, contributions_all, changes_at, pieces_fold, delivered, settled_part}
 use Rattle.px_superstep.proofs.Limits.{vertices_fit, folds_fit, put_fits}
 use Rattle.px_superstep.proofs.Parting.{flat_agree}

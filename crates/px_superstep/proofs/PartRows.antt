@@ -1,22 +1,20 @@
 -- The rows of a partition are those of all that are in it, and what they compute is what all compute of it.
-use Rattle.std.proofs.Common.{◌≡◌, ℕ, List, [], ◌∷◌, ◌++◌, map, filter, Bool, true, false, sym, ◌∙◌, ap, subst, refl, inl, inr}
-use Rattle.std.specs.Prelude.{◌==◌, ◌||◌, flat_map, Option, Some, None}
+use Rattle.std.proofs.Common.{◌≡◌, ℕ, List, [], ◌∷◌, ◌++◌, map, filter, Bool, true, sym, ◌∙◌, ap, refl, inl, inr}
+use Rattle.std.specs.Prelude.{◌==◌, ◌||◌}
 use Rattle.std.proofs.lemmas.List.Elements.{filter-append}
-use Rattle.std.proofs.lemmas.List.Folds.{flat_map-map}
 use Rattle.std.proofs.lemmas.Bool.{cases_eq, cases_Bool, cond-true, cond-false, cond_both}
-use Rattle.std.proofs.lemmas.Grind.{flat_map-append}
 use Rattle.px_core.specs.Parts.{to_part}
 use Rattle.px_core.specs.Partition.{partition_of}
-use Rattle.px_meaning.specs.Graph.{Vertex, Graph, lookup, vids, ascending}
-use Rattle.px_meaning.specs.Merge.{Pairs, grouped, inbox}
-use Rattle.px_meaning.specs.Program.{ProgramMeaning, Moment, Row, Out}
-use Rattle.px_meaning.specs.Step.{State, moment, is_active, row_at, rows, outs, computed}
-use Rattle.px_meaning.proofs.Ascending.{ascending_is, has, has-rest, has-ascending, has-append, IsAscending-ascending, IsAscending-filter, ascending-append_right}
+use Rattle.px_meaning.specs.Graph.{Graph, lookup, vids, ascending}
+use Rattle.px_meaning.specs.Merge.{Pairs, grouped}
+use Rattle.px_meaning.specs.Program.{ProgramMeaning, Moment, Row}
+use Rattle.px_meaning.specs.Step.{State, is_active, row_at, rows, computed}
+use Rattle.px_meaning.proofs.Ascending.{ascending_is, has, has-rest, has-ascending, IsAscending-ascending, IsAscending-filter, ascending-append_right}
 use Rattle.px_meaning.proofs.Rows.{has-filter_no}
 use Rattle.px_meaning.proofs.MapParts.{vids-filter, lookup-filter_on}
 use Rattle.px_meaning.proofs.Grouping.{lookup-grouped, vids-grouped}
 use Rattle.px_store.specs.Joins.{rows_in}
-use Rattle.px_superstep.specs.Partial.{graph_at, messages_at, computed_at, rows_at}
+use Rattle.px_superstep.specs.Partial.{graph_at, messages_at, rows_at}
 
 has-filter_same : (k : ℕ) (q : ℕ → Bool) (ns : List ℕ) → q k ≡ true → has k (filter q ns) ≡ has k ns
 has-filter_same k q [] on = refl

@@ -1,5 +1,5 @@
 -- What the partitions have, in whatever order they come, is what there is.
-use Rattle.std.proofs.Common.{◌≡◌, ℕ, zero, suc, ◌+◌, ◌<◌, List, [], ◌∷◌, ◌++◌, filter, Bool, true, false, IsPermutation, sym, ◌∙◌, ap, subst, refl, arith, inl, inr, append_assoc}
+use Rattle.std.proofs.Common.{◌≡◌, ℕ, ◌+◌, ◌<◌, List, [], ◌∷◌, ◌++◌, filter, IsPermutation, sym, ◌∙◌, ap, subst, refl, arith, inl, inr, append_assoc}
 use Rattle.std.specs.Prelude.{◌==◌, flat_map, cond}
 use Rattle.std.proofs.lemmas.Bool.{cases_eq, cond-true, cond-false, cond_both, eq-eqb, eqb-true}
 use Rattle.std.proofs.lemmas.List.Sorted.{IsPermutation-cons, IsPermutation-middle, IsPermutation-trans, IsPermutation-refl, IsPermutation-append_right}

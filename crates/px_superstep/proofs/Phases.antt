@@ -25,7 +25,7 @@ use Rattle.px_mutations.specs.declared.applying.Tally.{Tally}
 use Rattle.px_superstep.specs.Partial.{graph_at, messages_at, computed_at}
 use Rattle.px_superstep.specs.Phases.{Each, IsReadyToCompute, PhaseAt}
 use Rattle.px_superstep.specs.Steps.{StandsFor}
-use Rattle.px_superstep.proofs.Parting.{times-append, times_here, times_past}
+use Rattle.px_superstep.proofs.Parting.{times-append, times_past}
 use Rattle.px_superstep.proofs.Slices.{each_set, below, found, length_set}
 use Rattle.px_superstep.proofs.Standing.{holds_kept, messages_map}
 

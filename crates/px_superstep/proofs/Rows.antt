@@ -4,7 +4,6 @@ use Rattle.px_superstep.specs.declared.plan.JoinKind.{JoinKind}
 use Rattle.px_superstep.specs.declared.plan.GroupKind.{GroupKind}
 use Rattle.px_superstep.specs.declared.plan.ConnectorKind.{ConnectorKind}
 use Rattle.px_superstep.specs.declared.plan.Plan.{Plan}
-use Rattle.px_superstep.specs.declared.plan.Shares.{Shares}
 use Rattle.px_superstep.specs.declared.plan.StoreKind.TheVariants.{BTree, Lsm}
 use Rattle.px_superstep.specs.Plans.{needed, shared}
 

@@ -1,5 +1,5 @@
 -- The tools of a settling give back what they were made of, and their files are different ones.
-use Rattle.std.proofs.Common.{◌≡◌, ◌≤◌, ◌<◌, ℕ, ◌+◌, true, List, [], length, sym, ◌∙◌, ap, arith, refl, subst, inl, inr}
+use Rattle.std.proofs.Common.{◌≡◌, ◌≤◌, ◌<◌, ℕ, ◌+◌, true, List, [], sym, ◌∙◌, ap, arith, subst, inl, inr}
 use Rattle.px_frames.specs.Banks.{BankView}
 use Rattle.px_frames.specs.Shares.{ShareView}
 use Rattle.px_program.specs.Groups.{GroupMade, IsOwn, made_of}
@@ -15,12 +15,11 @@ use Rattle.px_stream.proofs.Kept.{to_give_same}
 use Rattle.px_mutations.specs.Applying.{AreApart, OrRead, IsSettled, IsReadyToSettle, Begun}
 use Rattle.px_mutations.specs.declared.applying.Tally.{Tally}
 use Rattle.px_superstep.specs.Steps.{CanSettle}
-use Rattle.px_superstep.specs.Files.{IsSpareFile, IsVidFile, IsResultFile, IsStepFile, update_file}
-use Rattle.px_superstep.specs.Lending.{IsLent, IsEnough}
-use Rattle.px_superstep.specs.SettleTooling.{FitPages, AreSettleTools, AreSettleToolsFor, SameSettleTools, CanCloseSettle, IsSettleClosed}
+use Rattle.px_superstep.specs.Files.{IsVidFile, IsResultFile, IsStepFile, update_file}
+use Rattle.px_superstep.specs.Lending.{IsLent}
+use Rattle.px_superstep.specs.SettleTooling.{AreSettleTools, SameSettleTools}
 use Rattle.px_superstep.specs.declared.benches.Lent.{Lent}
 use Rattle.px_superstep.specs.declared.applying.SettleTools.{SettleTools}
-use Rattle.px_superstep.proofs.Tooling.{again}
 
 module _ {G : Type 0} (made : G → GroupMade) (q to : ℕ) (b : BankView) (lent : Lent) (t t' : SettleTools G)
     (of : IsLent b lent) (are : AreSettleTools made q to lent t) (same : SameSettleTools made t t') where
@@ -29,58 +28,6 @@ module _ {G : Type 0} (made : G → GroupMade) (q to : ℕ) (b : BankView) (lent
 
   work_len : lent.work.frame_len ≡ t'.work.frame_len
   work_len = sym (ap (λ (s : ShareView). s.frame_len) same.work ∙ are.work.frame_len)
-
-  join_is : (lent' : Lent) → IsSettleClosed made t' lent' → lent'.join ≡ lent.join
-  join_is lent' closed = closed.join ∙ same.join ∙ are.join
-
-  pub can_close_settle : IsEnough lent → CanCloseSettle t'
-  can_close_settle enough =
-      let work_left : length t'.work.frames ≡ length t.work.frames = ap (λ (s : ShareView). length s.frames) same.work in
-      let work_size : t'.work.size ≡ lent.work.size = ap (λ (s : ShareView). s.size) same.work ∙ are.work.size in
-      let streams_left : length t'.streams.frames ≡ length t.streams.frames = ap (λ (s : ShareView). length s.frames) same.streams in
-      let streams_size : t'.streams.size ≡ lent.streams.size = ap (λ (s : ShareView). s.size) same.streams ∙ are.streams.size in
-      let streams_len : lent.work.frame_len ≡ t'.streams.frame_len = sym enough.streams_len ∙ sym are.streams.frame_len ∙ sym (ap (λ (s : ShareView). s.frame_len) same.streams) in
-      record {
-        first = same.first.frame_len ∙ are.first_len ∙ work_len;
-        second = same.second.frame_len ∙ are.second_len ∙ work_len;
-        verdict = same.verdict.frame_len ∙ are.verdict_len ∙ work_len;
-        spare = same.spare.frame_len ∙ are.spare_len ∙ work_len;
-        updates = same.updates_len ∙ are.fit.updates_len ∙ streams_len;
-        requests = same.requests_len ∙ are.fit.requests_len ∙ streams_len;
-        vids = same.vids_len ∙ are.fit.vids_len ∙ streams_len;
-        work = omega (arith, work_left, work_size, are.work.frames, of.work.full);
-        streams = omega (arith, streams_left, streams_size, are.streams.frames, of.streams.full);
-      }
-
-  pub settle_closed_is_lent : (lent' : Lent) → IsSettleClosed made t' lent' → IsLent b lent'
-  settle_closed_is_lent lent' closed =
-      let join = join_is lent' closed in
-      record {
-        work = again b 0 4 lent.work t.work t'.work lent'.work of.work are.work same.work closed.work;
-        join = record {
-          size = ap (λ (s : ShareView). s.size) join ∙ of.join.size;
-          frame_len = ap (λ (s : ShareView). s.frame_len) join ∙ of.join.frame_len;
-          full = ap (λ (s : ShareView). length s.frames) join ∙ of.join.full ∙ sym (ap (λ (s : ShareView). s.size) join);
-        };
-        streams = again b 2 3 lent.streams t.streams t'.streams lent'.streams of.streams are.streams same.streams closed.streams;
-        group = record {
-          size = closed.group_size ∙ ap (λ (m : GroupMade). m.size) made_is ∙ of.group.size;
-          frame_len = closed.group_len ∙ ap (λ (m : GroupMade). m.frame_len) made_is ∙ of.group.frame_len;
-          full = closed.group_frames ∙ ap (λ (m : GroupMade). m.frames) made_is ∙ of.group.full ∙ sym (closed.group_size ∙ ap (λ (m : GroupMade). m.size) made_is);
-        };
-        table = closed.table ∙ ap (λ (m : GroupMade). m.capacity) made_is ∙ of.table;
-      }
-
--- they are the tools of a partition over pages as long as the frames that were lent
-pub settle_tools_for : {G : Type 0} (made : G → GroupMade) (q to len : ℕ) (lent : Lent) (t : SettleTools G) → AreSettleTools made q to lent t → lent.work.frame_len ≡ len → AreSettleToolsFor made q to len t
-settle_tools_for made q to len lent t are is = record {
-  fit = subst (λ (n : ℕ). FitPages made n t) is are.fit;
-  own_first = ap (λ (m : GroupMade). m.first) are.group;
-  own_second = ap (λ (m : GroupMade). m.second) are.group;
-  updates = are.updates;
-  requests = are.requests;
-  vids = are.vids;
-}
 
 -- the files of a settling
 module _ (made : GroupMade) (q u r v to : ℕ) (few : q < 16) (first : made.first ≡ 2) (second : made.second ≡ 3) (updates : u ≡ update_file q) (requests : r ≡ 160 + q) (vids : v ≡ to) (is_vid : IsVidFile to) where

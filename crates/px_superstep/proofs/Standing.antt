@@ -1,13 +1,13 @@
 -- What a job stands for outlives what changes none of its files.
-use Rattle.std.proofs.Common.{◌≡◌, ◌<◌, ◌≤◌, ◌+◌, ℕ, List, length, true, sym, ◌∙◌, ap, subst, arith, inl, inr}
+use Rattle.std.proofs.Common.{◌≡◌, ◌<◌, ◌≤◌, ◌+◌, ℕ, List, length, true, sym, ◌∙◌, ap, subst, arith}
 use Rattle.std.specs.Prelude.{◌%◌, ◌==◌, Bool}
 use Rattle.px_core.specs.Shown.{Shown, Touches, Only}
 use Rattle.px_core.proofs.Keeping.{same_by_touches}
 use Rattle.px_meaning.specs.Graph.{Graph, IsMap}
-use Rattle.px_meaning.specs.Merge.{MergeRule, Pairs, AllValid, grouped}
-use Rattle.px_meaning.specs.Program.{ProgramMeaning, ProgramLaws}
+use Rattle.px_meaning.specs.Merge.{grouped}
+use Rattle.px_meaning.specs.Program.{ProgramMeaning}
 use Rattle.px_meaning.specs.Step.{State, moment}
-use Rattle.px_meaning.proofs.Grouping.{IsMap-grouped, AllValid-grouped}
+use Rattle.px_meaning.proofs.Grouping.{IsMap-grouped}
 use Rattle.px_meaning.proofs.MapParts.{IsMap-filter}
 use Rattle.px_core.specs.Partition.{partition_of}
 use Rattle.px_pages.specs.Entry.{Entry}

@@ -1,6 +1,6 @@
 -- The bank of a job lends what a superstep works with, and gets it back.
-use Rattle.std.proofs.Common.{◌≡◌, ◌≢◌, ◌≤◌, ◌<◌, ℕ, Bool, true, false, List, length, sym, ◌∙◌, ap, subst, arith, refl}
-use Rattle.std.specs.Prelude.{IsTrue, slice_index_or}
+use Rattle.std.proofs.Common.{◌≡◌, ◌≢◌, ◌≤◌, ◌<◌, ℕ, Bool, true, false, List, length, sym, ◌∙◌, ap, subst, arith}
+use Rattle.std.specs.Prelude.{slice_index_or}
 use Rattle.px_core.specs.Shown.{Shown}
 use Rattle.px_pages.specs.Page.{IsPageLen}
 use Rattle.px_frames.specs.Banks.{BankView, SlotView, size_of, is_home, with_home}

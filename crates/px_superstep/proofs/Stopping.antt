@@ -1,14 +1,12 @@
 -- Why work over two disks stopped, after calls that did not fail.
-use Rattle.std.proofs.Common.{◌≡◌, ◌≢◌, ◌⊎◌, ℕ, sym, ◌∙◌, subst, refl, inl, inr}
+use Rattle.std.proofs.Common.{◌≡◌, ◌≢◌, ◌⊎◌, ℕ, sym, ◌∙◌, subst, refl}
 use Rattle.px_core.specs.Counts.{Rose}
-use Rattle.px_core.specs.Shown.{Shown, NoFile, Clean, Broke}
+use Rattle.px_core.specs.Shown.{Shown, Clean, Broke}
 use Rattle.px_core.specs.declared.stop.Stop.{Stop}
-use Rattle.px_core.specs.declared.stop.Stop.TheVariants.{Graph as GraphStop, Scratch, Beyond}
+use Rattle.px_core.specs.declared.stop.Stop.TheVariants.{Graph as GraphStop}
 use Rattle.px_core.proofs.Pages.{touches_then, touches_more}
-use Rattle.px_core.proofs.Steps.{clean_more}
 use Rattle.px_cache.specs.View.{AnyFile}
 use Rattle.px_connectors.specs.Stops.{StopsPhase}
-use Rattle.px_store.specs.Joins.{OneBroke}
 
 -- the graph disk failed
 pub phase_graph : (mine : ℕ → Type 0) (Much : Type 0) (g g' s s' : Shown) (e : Stop) → Clean mine s s' → Broke GraphStop AnyFile g g' e → StopsPhase mine Much g g' s s' e
@@ -21,23 +19,6 @@ phase_graph mine Much g g' s s' e still h = subst (StopsPhase mine Much g g' s s
   touches = still.touches;
   graph_touches = h.touches;
 })
-
--- the scratch disk failed
-pub phase_scratch : (mine : ℕ → Type 0) (Much : Type 0) (g g' s s' : Shown) (e : Stop) → Clean AnyFile g g' → Broke Scratch mine s s' e → StopsPhase mine Much g g' s s' e
-phase_scratch mine Much g g' s s' e still h = subst (StopsPhase mine Much g g' s s') (sym h.only) (record {
-  beyond = λ is. cc;
-  graph = λ is. cc;
-  scratch = λ is. h.rose;
-  no_graph = λ not. still.no_fault;
-  no_scratch = λ not. absurd (not refl);
-  touches = h.touches;
-  graph_touches = still.touches;
-})
-
--- one of the two failed
-pub phase_one : (mine : ℕ → Type 0) (Much : Type 0) (g g' s s' : Shown) (e : Stop) → OneBroke mine g g' s s' e → StopsPhase mine Much g g' s s' e
-phase_one mine Much g g' s s' e (inl h) = phase_graph mine Much g g' s s' e (clean_more NoFile mine s s' (λ f no. absurd no) h.1) h.0
-phase_one mine Much g g' s s' e (inr h) = phase_scratch mine Much g g' s s' e h.1 h.0
 
 -- calls that did not fail came before
 pub phase_after : (mine : ℕ → Type 0) (Much : Type 0) (a b c s t u : Shown) (e : Stop) → Clean AnyFile a b → Clean mine s t → StopsPhase mine Much b c t u e → StopsPhase mine Much a c s u e

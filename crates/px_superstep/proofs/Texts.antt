@@ -1,11 +1,11 @@
 -- The graph of a good text: a map of vertices that are awake and within room.
-use Rattle.std.proofs.Common.{◌≡◌, ◌<◌, ◌≤◌, ℕ, suc, ◌+◌, Bool, true, false, List, [], ◌∷◌, ◌++◌, length, filter, fold, Option, Some, None, sym, ◌∙◌, ap, subst, refl, arith, length-append}
-use Rattle.std.specs.Prelude.{nat_lt, nat_le, ◌==◌, not, if◌then◌else◌}
-use Rattle.std.specs.List.{AllByRecursion, cons_option, filter_map, list_any}
+use Rattle.std.proofs.Common.{◌≡◌, ◌<◌, ◌≤◌, ℕ, suc, ◌+◌, Bool, true, false, List, [], ◌∷◌, ◌++◌, length, filter, fold, Option, Some, None, sym, ◌∙◌, ap, subst, refl, length-append}
+use Rattle.std.specs.Prelude.{nat_lt, ◌==◌, not, if◌then◌else◌}
+use Rattle.std.specs.List.{AllByRecursion, cons_option}
 use Rattle.std.proofs.lemmas.Bool.{leb-true, le-ltb}
-use Rattle.px_meaning.specs.Graph.{Vertex, Graph, IsMap, put, size_of, vertex_size, vids}
-use Rattle.px_meaning.specs.GraphText.{TextMeaning, Bad, Twice, Good, Offence, offence, least_twice, lines_of, vertex_given, vertices_given, map_of, graph_given, graph_of}
-use Rattle.px_meaning.specs.Line.{Edges, Spot, Start, Comment, InVid, Gap, InTarget, Colon, InWeight, Move, On, Off, Kind, Form, Number, Wide, Reading, Nothing, Spelled, Refused, has_room, is_blank, is_digit, with_digit, digit_move, greatest_vid, greatest_weight, move, ending, later, reading_from, reading}
+use Rattle.px_meaning.specs.Graph.{Vertex, Graph, IsMap, put, size_of, vids}
+use Rattle.px_meaning.specs.GraphText.{Good, Offence, offence, least_twice, lines_of, vertex_given, vertices_given, map_of, graph_of}
+use Rattle.px_meaning.specs.Line.{Edges, Spot, Start, Comment, InVid, Gap, InTarget, Colon, InWeight, Move, On, Off, Number, Reading, Nothing, Spelled, Refused, has_room, is_blank, is_digit, with_digit, digit_move, greatest_vid, greatest_weight, move, ending, later, reading_from, reading}
 use Rattle.px_meaning.specs.Step.{is_wide, has_wide_vertex}
 use Rattle.px_meaning.proofs.Maps.{IsMap-put}
 use Rattle.px_meaning.proofs.TextMeanings.{meant, text_is_meant, sorted_as, sorted_is}

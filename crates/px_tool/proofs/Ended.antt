@@ -1,16 +1,13 @@
 -- How a job's run ends, from how its dispatch does.
-use Rattle.std.proofs.Common.{◌≡◌, ◌≤◌, ◌<◌, ◌^◌, ◌++◌, ◌==◌, ℕ, Bool, List, [], take, true, false, not, nat_lt, Option, Some, None, is_some, refl, sym, ◌∙◌, ap, subst, inl, inr}
+use Rattle.std.proofs.Common.{◌≡◌, ◌≤◌, ◌<◌, ◌^◌, ◌++◌, ◌==◌, ℕ, List, [], take, true, false, not, nat_lt, Option, Some, None, is_some, refl, sym, ◌∙◌, ap, subst, inl, inr}
 use Rattle.std.specs.Prelude.{IsTrue}
-use Rattle.std.proofs.Math.Nat.{not-suc-le-zero}
 use Rattle.std.proofs.lemmas.Bool.{cases_lt, cond-true, cond-false, lt-ltb, le-ltb}
-use Rattle.px_core.specs.Counts.{Rose}
 use Rattle.px_core.specs.Shown.{Shown}
 use Rattle.px_graph_text.specs.Generated.{generated}
 use Rattle.px_graph_text.specs.Kinds.{kind_of}
 use Rattle.px_graph_text.specs.declared.refusal.Kind.{Kind}
 use Rattle.px_graph_text.specs.declared.refusal.Kind.TheVariants.{Form, Number, Wide, Long}
 use Rattle.px_load.specs.Dumping.{SomeOf}
-use Rattle.px_load.specs.Stops.{Counts}
 use Rattle.px_meaning.specs.Due as owed
 use Rattle.px_meaning.specs.Due.{due_of_text}
 use Rattle.px_meaning.specs.Graph.{room_of}
@@ -270,18 +267,7 @@ output_named o job is l = ap (λ x. output_if x l) is
 reads_named : (o : Option Job) (job : Job) → o ≡ Some job → reads_if o ≡ not (is_some job.generate)
 reads_named o job is = ap reads_if is
 
--- the run ended whose words name a job that reads the input
-module _ {W G S : Type 0} (Left : List ℕ → Type 0) (Read Untouched : Type 0) (holds : W → List ℕ → Type 0) (g s : Shown) (o : Option Job) (job : Job) (out_was out_now : W) (graph_was graph_now : G) (scratch_was scratch_now : S) (e : Ending) where
-  pub ended_reading : o ≡ Some job → job.generate ≡ None
-      → HasEnded Left Read Untouched holds g s (due_of_job job) (output_of job) out_was out_now graph_was graph_now scratch_was scratch_now e
-      → HasEnded (λ l. IsTrue (reads_if o) → Left l) (IsTrue (reads_if o) → Read) Untouched holds g s (due_if o) (output_if o) out_was out_now graph_was graph_now scratch_was scratch_now e
-  ended_reading is none h =
-      let here : (l : List ℕ) → text_for job l ≡ l = λ l. ap (λ (x : Option ℕ). text_read x job.seed l) none in
-      let reads : IsTrue (reads_if o) = reads_named o job is ∙ ap (λ (x : Option ℕ). not (is_some x)) none in
-      ended_by Left (λ l. IsTrue (reads_if o) → Left l) Read (IsTrue (reads_if o) → Read) Untouched Untouched holds g s (due_of_job job) (due_if o) (output_of job) (output_if o) (λ l. l) out_was out_now graph_was graph_now scratch_was scratch_now e
-      (λ l. due_named o job is l ∙ ap (due_of_job job) (here l)) (λ l. output_named o job is l ∙ ap (output_of job) (here l)) (λ l x. x reads) (λ x r. x) (λ x. x) h
-
--- and one whose text is generated, so that its source is not asked
+-- the run ended whose words name a job whose text is generated, so that its source is not asked
 module _ {W G S : Type 0} (Made : List ℕ → Type 0) (Read Untouched : Type 0) (Left : List ℕ → Type 0) (Empty Unasked : Type 0) (holds : W → List ℕ → Type 0) (g s : Shown) (o : Option Job) (job : Job) (n : ℕ) (out_was out_now : W) (graph_was graph_now : G) (scratch_was scratch_now : S) (e : Ending) where
   pub ended_generated : o ≡ Some job → job.generate ≡ Some n → Made (generated job.seed n) → Unasked
       → HasEnded Made Read Untouched holds g s (due_of_job job) (output_of job) out_was out_now graph_was graph_now scratch_was scratch_now e
@@ -291,15 +277,6 @@ module _ {W G S : Type 0} (Made : List ℕ → Type 0) (Read Untouched : Type 0)
       let no : reads_if o ≡ false = reads_named o job is ∙ ap (λ (x : Option ℕ). not (is_some x)) some in
       ended_by Made (λ l. IsTrue (reads_if o) → Left l) Read (IsTrue (reads_if o) → Empty) Untouched Unasked holds g s (due_of_job job) (due_if o) (output_of job) (output_if o) (λ l. generated job.seed n) out_was out_now graph_was graph_now scratch_was scratch_now e
       (λ l. due_named o job is l ∙ ap (due_of_job job) (here l)) (λ l. output_named o job is l ∙ ap (output_of job) (here l)) (λ l x. made) (λ x r. absurd (cc (sym no ∙ r))) (λ x. unasked) h
-
--- a count that is always 0 did not rise
-counts_made : (b : Bool) (m m' r r' : ℕ) → m ≡ 0 → m' ≡ 0 → r' ≡ r → Counts b m m' → Counts b r r'
-counts_made true m m' r r' none none' same rose = absurd (not-suc-le-zero (subst (λ x. Rose 0 x) none' (subst (λ x. Rose x m') none rose)))
-counts_made false m m' r r' none none' same is = same
-
--- a source that never fails stands for one that is not asked
-pub faults_made : (status m m' r r' w w' g g' s s' : ℕ) → m ≡ 0 → m' ≡ 0 → r' ≡ r → HasFaults status m m' w w' g g' s s' → HasFaults status r r' w w' g g' s s'
-faults_made status m m' r r' w w' g g' s s' none none' same f = record { source = counts_made (status == 8) m m' r r' none none' same f.source; sink = f.sink; graph = f.graph; scratch = f.scratch }
 
 -- the states of words that name a job
 pub states_named : (o : Option Job) (job : Job) → o ≡ Some job → (l : List ℕ) → states_if o l ≡ states_of job (text_for job l)

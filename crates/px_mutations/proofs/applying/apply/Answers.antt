@@ -1,11 +1,10 @@
-use Rattle.std.proofs.Common.{rules, arith, ◌≡◌, ◌≤◌, ◌+◌, ◌*◌, ◌++◌, [], ℕ, List, false, IsTrue, sym, ◌∙◌, ap, subst, refl, inl, inr}
+use Rattle.std.proofs.Common.{◌≡◌, ◌≤◌, ◌+◌, ◌*◌, ◌++◌, [], ℕ, List, false, IsTrue, sym, ◌∙◌, ap, subst, inl, inr}
 use Rattle.std.specs.Bool.{OnTrue}
 use Rattle.std.proofs.lemmas.Bool.{or_left, or_right, or_from}
-use Rattle.std.proofs.lemmas.Result.{IfOk-weaker, IfErr-weaker, err_from_is_err_and}
+use Rattle.std.proofs.lemmas.Result.{err_from_is_err_and}
 use Rattle.px_core.specs.Shown.{Only, Clean}
-use Rattle.px_core.specs.declared.stop.Stop.{Stop}
 use Rattle.px_core.specs.declared.stop.Stop.TheVariants.{Scratch}
-use Rattle.px_core.proofs.Keeping.{same_by_touches, same_then}
+use Rattle.px_core.proofs.Keeping.{same_by_touches}
 use Rattle.px_core.proofs.Steps.{clean_refl, clean_more, clean_then, broke_of, broke_more}
 use Rattle.px_cache.specs.View.{AnyFile}
 use Rattle.px_meaning.specs.Graph.{Graph, room_of}
@@ -13,14 +12,13 @@ use Rattle.px_meaning.specs.Merge.{MergeRule, Pairs, AllValid, grouped}
 use Rattle.px_meaning.specs.Step.{put_all, settled, has_wide_vertex, has_wide_fold, has_many_vertices}
 use Rattle.px_pages.specs.Entry.{Entry}
 use Rattle.px_program.specs.Groups.{GroupMade, IsOwn, room_in}
-use Rattle.px_stream.specs.Stream.{Took, Has, ToGive}
-use Rattle.px_stream.specs.Counts.{Wrote}
+use Rattle.px_stream.specs.Stream.{Took, ToGive}
 use Rattle.px_stream.proofs.Kept.{took_same, to_give_same}
 use Rattle.px_connectors.specs.Asking.{requests}
 use Rattle.px_connectors.specs.Files.{OwnOr}
 use Rattle.px_connectors.specs.Messages.{pairs_of}
 use Rattle.px_store.specs.Joins.{vid_tuples}
-use Rattle.px_mutations.specs.Applying.{settled_after, is_settling_beyond, touched, IsTally, Begun, IsSettled, OrRead, IsMerging, IsMerged}
+use Rattle.px_mutations.specs.Applying.{settled_after, is_settling_beyond, Begun, IsSettled, OrRead, IsMerging, IsMerged}
 use Rattle.px_mutations.proofs.Apart.{only_own, grouping_stops, grouping_more, phase_stops, scratch_stops}
 use Rattle.px_mutations.proofs.Beginning.{pairs_requests, settled_grouped, touched_grouped, begins_merging, on_ok, on_ok_map, tally_stops}
 use Rattle.px_mutations.proofs.applying.apply.Goals as goal

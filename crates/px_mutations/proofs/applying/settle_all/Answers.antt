@@ -1,20 +1,18 @@
-use Rattle.std.proofs.Common.{rules, arith, ◌≡◌, ◌≤◌, ◌<◌, ◌+◌, ◌∷◌, ℕ, List, true, false, IsTrue, sym, ◌∙◌, ap, subst, refl, inl, inr}
-use Rattle.std.specs.Prelude.{Option, Some, None}
-use Rattle.std.specs.Bool.{OnTrue}
+use Rattle.std.proofs.Common.{rules, arith, ◌≡◌, ◌≤◌, ◌<◌, ◌+◌, ◌∷◌, ℕ, List, true, false, IsTrue, sym, ◌∙◌, ap, subst, inl, inr}
+use Rattle.std.specs.Prelude.{Option, Some}
 use Rattle.std.specs.List.{AllByRecursion}
 use Rattle.std.proofs.lemmas.Option.{MatchOption-at_some}
-use Rattle.std.proofs.lemmas.Bool.{or_left, or_right, OnTrue_from, OnTrue_at}
+use Rattle.std.proofs.lemmas.Bool.{or_left, or_right, OnTrue_from}
 use Rattle.std.proofs.lemmas.Result.{err_from_is_err_and}
-use Rattle.px_core.specs.Shown.{Shown, Only, NoFile, Clean, Broke}
+use Rattle.px_core.specs.Shown.{Only, NoFile, Clean}
 use Rattle.px_core.specs.declared.stop.Stop.TheVariants.{Scratch}
 use Rattle.px_core.proofs.Keeping.{same_by_touches, same_by_none, same_then}
-use Rattle.px_core.proofs.Steps.{clean_refl, clean_more, clean_then, broke_more, broke_after}
+use Rattle.px_core.proofs.Steps.{clean_refl, clean_more, clean_then, broke_more}
 use Rattle.px_cache.specs.View.{AnyFile}
 use Rattle.px_meaning.specs.Graph.{Graph, Vertex, IsMap, room_of}
 use Rattle.px_meaning.specs.Merge.{MergeRule, Pairs}
 use Rattle.px_meaning.specs.Step.{put_all, settled, has_wide_vertex, has_wide_fold}
-use Rattle.px_pages.specs.Entry.{Entry}
-use Rattle.px_program.specs.Groups.{GroupMade, IsOwn, StopsGrouping, room_in}
+use Rattle.px_program.specs.Groups.{GroupMade, IsOwn, room_in}
 use Rattle.px_record.specs.Body.{IsVertex}
 use Rattle.px_stream.specs.Stream.{Took, ToGive}
 use Rattle.px_stream.proofs.Kept.{took_same, to_give_same}
@@ -24,9 +22,9 @@ use Rattle.px_store.proofs.Apart.{done_refl, done_then, desk_refl, desk_then}
 use Rattle.px_mutations.specs.declared.turns.Turn.{Turn}
 use Rattle.px_mutations.specs.Turns.{first_vid, Comes, IsTurn, given_if, Takes, Waits}
 use Rattle.px_mutations.specs.Effects.{left_at, turned, IsEffect, IsTooWide}
-use Rattle.px_mutations.specs.Applying.{IsSettled, OrRead, IsMerging, is_settling_beyond}
+use Rattle.px_mutations.specs.Applying.{IsSettled, OrRead}
 use Rattle.px_mutations.proofs.Apart.{only_own, own_only, only_other, scratch_stops, settling_stops, grouping_stops, grouping_more}
-use Rattle.px_mutations.proofs.Merging.{MergingAt, merging_first, merging_next, merging_end, merging_wide, waits_map, reads_so_far, leaves_so_far, reads_within, leaves_within, turn_takes}
+use Rattle.px_mutations.proofs.Merging.{merging_first, merging_next, merging_end, merging_wide, waits_map, reads_so_far, leaves_so_far, reads_within, leaves_within, turn_takes}
 use Rattle.px_mutations.proofs.applying.settle_all.Goals as goal
 
 pub loop-turn-init : goal.loop-turn-init

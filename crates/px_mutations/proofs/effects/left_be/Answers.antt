@@ -1,4 +1,4 @@
-use Rattle.std.proofs.Common.{◌≡◌, Bool, true, false, not, ◌&&◌, sym, ◌∙◌, ap, refl}
+use Rattle.std.proofs.Common.{◌≡◌, Bool, true, false, not, ◌&&◌, sym, ◌∙◌, ap}
 use Rattle.px_mutations.specs.declared.effects.Effect.{Effect}
 use Rattle.px_mutations.proofs.Effecting.{same_effect}
 use Rattle.px_mutations.proofs.effects.left_be.Goals as goal

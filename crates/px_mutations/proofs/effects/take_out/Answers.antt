@@ -1,4 +1,4 @@
-use Rattle.std.proofs.Common.{refl, sym, subst}
+use Rattle.std.proofs.Common.{refl, subst}
 use Rattle.px_meaning.specs.Graph.{Graph, lookup}
 use Rattle.px_mutations.proofs.Effecting.{gone_effect, gone_already}
 use Rattle.px_mutations.proofs.effects.take_out.Goals as goal

@@ -1,6 +1,6 @@
-use Rattle.std.proofs.Common.{◌≡◌, ◌||◌, ℕ, sym, ◌∙◌, ap, subst}
+use Rattle.std.proofs.Common.{◌≡◌, ◌||◌, ℕ, ◌∙◌, subst}
 use Rattle.std.specs.Prelude.{Option}
-use Rattle.px_meaning.specs.Graph.{Graph, Vertex, room_of}
+use Rattle.px_meaning.specs.Graph.{Vertex, room_of}
 use Rattle.px_mutations.specs.Effects.{placed, turned, IsEffect}
 use Rattle.px_mutations.proofs.Effecting.{outcome_is, carried_is}
 use Rattle.px_mutations.proofs.settling.settle_vid.Goals as goal

@@ -1,4 +1,4 @@
-use Rattle.std.proofs.Common.{sym, ◌∙◌, ◌≡◌, ◌||◌, true}
+use Rattle.std.proofs.Common.{◌∙◌, ◌≡◌, ◌||◌, true}
 use Rattle.std.specs.Prelude.{Some}
 use Rattle.px_mutations.proofs.Taking.{due_is_turn, due_some, due_here}
 use Rattle.px_mutations.proofs.turns.next_turn.Goals as goal

@@ -1,6 +1,4 @@
-use Rattle.std.proofs.Common.{◌≡◌, ◌≤◌, ◌+◌, ℕ, List, length, sym, ◌∙◌, ap, subst, drop, arith}
-use Rattle.px_meaning.specs.Graph.{room_of}
-use Rattle.px_pages.specs.Entry.{Entry}
+use Rattle.std.proofs.Common.{◌≡◌, ◌≤◌, ◌+◌, ℕ, length, ◌∙◌, ap, arith}
 use Rattle.px_record.specs.Body.{is_vertex_body, vertex_of}
 use Rattle.px_stream.specs.Stream.{ToGive, first_body}
 use Rattle.px_mutations.proofs.Taking.{next_is, taken_next}

@@ -1,5 +1,4 @@
-use Rattle.std.proofs.Common.{List, ◌≡◌}
-use Rattle.px_pages.specs.Entry.{Entry}
+use Rattle.std.proofs.Common.{◌≡◌}
 use Rattle.px_stream.specs.Stream.{ToGive}
 use Rattle.px_mutations.proofs.Taking.{turn_taken, turn_passed, comes_first}
 use Rattle.px_mutations.proofs.turns.take_update.Goals as goal

@@ -3,7 +3,6 @@ use Rattle.px_meaning.specs.Graph.{room_of}
 use Rattle.px_meaning.specs.GraphText.{graph_of}
 use Rattle.px_meaning.specs.Program.{ProgramMeaning}
 use Rattle.px_superstep.specs.Reached.{reached_of_text}
-use Rattle.px_superstep.specs.declared.plan.End.TheVariants.{Done}
 use Rattle.px_superstep.specs.declared.plan.Setup.{Setup}
 use Rattle.px_tool.specs.Clauses.{DisksTell, HasStats}
 use Rattle.px_tool.specs.Due.{meant_by, most_bytes}

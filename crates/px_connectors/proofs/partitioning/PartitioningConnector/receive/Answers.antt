@@ -1,6 +1,5 @@
 use Rattle.std.proofs.Common.{◌≡◌, ◌<◌, ℕ, sym, subst}
 use Rattle.px_core.specs.Parts.{to_part}
-use Rattle.px_meaning.specs.Merge.{Pairs}
 use Rattle.px_connectors.specs.Sides.{PartitioningView, HasSent}
 use Rattle.px_connectors.proofs.partitioning.PartitioningConnector.receive.Goals as goal
 

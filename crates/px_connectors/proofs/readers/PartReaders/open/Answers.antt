@@ -1,8 +1,7 @@
 use Rattle.std.proofs.Common.{arith, ◌≡◌, ◌<◌, ◌≤◌, ◌+◌, ◌*◌, ◌∷◌, [], ◌∙◌, ℕ, ap, length, sym, subst, map}
-use Rattle.std.specs.Prelude.{Some, slice_index_or}
+use Rattle.std.specs.Prelude.{Some}
 use Rattle.std.proofs.lemmas.List.{length-append}
-use Rattle.px_stream.specs.Stream.{Holds, ToGive}
-use Rattle.px_stream.specs.Views.{ReaderView}
+use Rattle.px_stream.specs.Stream.{Holds}
 use Rattle.px_connectors.specs.Messages.{tagged}
 use Rattle.px_connectors.specs.Receiving.{OfReader, IsReader, GivesPairs}
 use Rattle.px_connectors.specs.Views.{IsConnectorFile}
